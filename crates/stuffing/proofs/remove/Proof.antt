@@ -1,0 +1,76 @@
+-- `remove` meets its contract: in each turn, what is stored with what removing leaves of the rest is the whole.
+use Prim.Native.Nat.{_-_}
+use mathlib.Core.Path.{sym, _∙_}
+use lib.ListN.{length}
+use borrow.Author.Needs.{needs}
+use Rattle.stuffing.proofs.Steps.{Removing, removing-start, removing-drop, removing-keep, removing-done}
+use Rattle.stuffing.proofs.remove.Statement.{statement}
+use Rattle.stuffing.proofs.remove.Tie as tie
+
+abbrev Inv-loop : tie.InvT-loop
+Inv-loop ebsp out₀ i₀ n₀ zeros₀ out i n zeros = Removing ebsp out₀ out i n zeros
+
+abbrev μ-loop : tie.MeasureT-loop
+μ-loop ebsp out₀ i₀ n₀ zeros₀ out i n zeros = length ebsp - i
+
+loop-holds : tie.Need-loop-holds Inv-loop μ-loop
+loop-holds c = removing-start _ _
+
+shared-slice-read-b : tie.Need-shared-slice-read-b Inv-loop μ-loop
+shared-slice-read-b c = search needs
+
+add-i : tie.Need-add-i Inv-loop μ-loop
+add-i c = search needs
+
+is-dropped-requires : tie.Need-is-dropped-requires Inv-loop μ-loop
+is-dropped-requires c κs = search needs
+
+loop-less : tie.Need-loop-less Inv-loop μ-loop
+loop-less c = search needs
+
+loop-again : tie.Need-loop-again Inv-loop μ-loop
+loop-again c = removing-drop (c .before .before .before .before .loop .inv) (c .before .before .before .loop-test .taken) (sym (c .before .is-dropped .ensures) ∙ c .if1 .taken)
+
+store-requires : tie.Need-store-requires Inv-loop μ-loop
+store-requires c κs = search needs
+
+add-n : tie.Need-add-n Inv-loop μ-loop
+add-n c = search needs
+
+zeros-behind-requires : tie.Need-zeros-behind-requires Inv-loop μ-loop
+zeros-behind-requires c κs = search needs
+
+loop-less-2 : tie.Need-loop-less-2 Inv-loop μ-loop
+loop-less-2 c = search needs
+
+loop-again-2 : tie.Need-loop-again-2 Inv-loop μ-loop
+loop-again-2 c =
+    let turn = c .before .before .before .before .before in
+    removing-keep (turn .before .before .before .before .loop .inv) (turn .before .before .before .loop-test .taken) (sym (turn .before .is-dropped .ensures) ∙ turn .if1 .left)
+    (c .before .before .before .store .ensures) (c .zeros-behind .ensures)
+
+same-length : tie.Need-same-length Inv-loop μ-loop
+same-length c = search needs
+
+returns : tie.Need-returns Inv-loop μ-loop
+returns c = removing-done (c .before .loop .inv) (c .loop-test .left)
+
+pub remove-spec : {M : Type 1} → statement M
+remove-spec =
+    tie.close
+    (tie.spec
+    Inv-loop
+    μ-loop
+    loop-holds
+    shared-slice-read-b
+    add-i
+    is-dropped-requires
+    loop-less
+    loop-again
+    store-requires
+    add-n
+    zeros-behind-requires
+    loop-less-2
+    loop-again-2
+    same-length
+    returns)

@@ -1,0 +1,4 @@
+pub mod Stuffing
+pub mod Machine
+pub mod Laws
+pub mod Answers
