@@ -1,0 +1,14 @@
+pub mod Syntax
+pub mod Words
+pub mod OutputLayerSets
+pub mod ProfileTierLevel
+pub mod DpbParameters
+pub mod TimingHrd
+pub mod Vps
+pub mod Record
+pub mod Reading
+pub mod Writing
+pub mod Lookup
+pub mod Open
+pub mod Cases
+pub mod Layout

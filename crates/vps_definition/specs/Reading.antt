@@ -1,0 +1,65 @@
+-- Reading a unit: header, unstuffing, the length limit, the table, the extension, the trailing bits. It knows no buffers.
+use Prim.Native.Nat.{ℕ, zero, suc, _+_, _*_, _-_, _/_}
+use mathlib.Core.List.{List, [], _∷_, _++_}
+use mathlib.Core.Bool.{Bool, true, false}
+use lib.Dec.{leb, eqb}
+use lib.ListN.{length, getD}
+use Rattle.refusals.specs.Answer.{Answer}
+use Rattle.refusals.specs.Answer.Answer.{success, refusal}
+use Rattle.refusals.specs.Number.{unit-too-short, not-a-vps, rbsp-too-long}
+use Rattle.stuffing.specs.Stuffing.{unstuff}
+use Rattle.bits.specs.Bits.{bitAt}
+use Rattle.bits.specs.Reading.{moreData, trailingAt}
+use Rattle.vps_definition.specs.Syntax.{Outcome, run}
+use Rattle.vps_definition.specs.Syntax.Outcome.{accepted, refused}
+use Rattle.vps_definition.specs.Vps.{vps}
+use Rattle.vps_definition.specs.Record.{recordOf}
+
+-- a record, and the bits used through the trailing bits; or a refusal's number
+pub data Reading : Type 0 where
+  accepts : (vps-record : List ℕ) (bits-used : ℕ) → Reading
+  refuses : (number : ℕ) → Reading
+
+-- ── The extension ─────────────────────────────────────────────────────
+-- n bits from a place on
+unfoldable pub bitsAt : List ℕ → ℕ → ℕ → List ℕ
+bitsAt s at zero = []
+bitsAt s at (suc n) = bitAt s at ∷ bitsAt s (at + 1) n
+
+-- how many bits are read while more_rbsp_data(), out of n at the most
+unfoldable pub dataBits : List ℕ → ℕ → ℕ → ℕ
+dataBits s at zero = 0
+dataBits s at (suc n) = elim (moreData s at) [ true ↦ suc (dataBits s (at + 1) n) | false ↦ 0 ]
+
+-- vps_extension_data_flag, under vps_extension_flag 1
+unfoldable pub extensionBits : (flag : ℕ) → List ℕ → ℕ → ℕ
+extensionBits flag s at = elim (eqb flag 0) [ true ↦ 0 | false ↦ dataBits s at (8 * length s - at) ]
+
+-- ── The whole ─────────────────────────────────────────────────────────
+unfoldable pub ended : (vps-record : List ℕ) → Answer ℕ → Reading
+ended r (success next) = accepts r next
+ended r (refusal n) = refuses n
+
+unfoldable pub closed : List ℕ → Outcome (List ℕ) → Reading
+closed s (accepted general t at) =
+    let n = extensionBits (getD general 8 0) s at in
+    ended (recordOf general t (bitsAt s at n)) (trailingAt s (at + n))
+closed s (refused n t) = refuses n
+
+unfoldable pub readRbsp : List ℕ → Reading
+readRbsp s = closed s (run vps s 0)
+
+abbrev pub most-rbsp-bytes : ℕ
+most-rbsp-bytes = 65535
+
+unfoldable pub readLimited : List ℕ → Reading
+readLimited s = elim (leb (length s) most-rbsp-bytes) [ true ↦ readRbsp s | false ↦ refuses rbsp-too-long ]
+
+-- nal_unit_type of a VPS
+abbrev pub vps-nut : ℕ
+vps-nut = 14
+
+unfoldable pub readUnit : List ℕ → Reading
+readUnit [] = refuses unit-too-short
+readUnit (a ∷ []) = refuses unit-too-short
+readUnit (a ∷ b ∷ s) = elim (eqb (b / 8) vps-nut) [ true ↦ readLimited (unstuff s) | false ↦ refuses not-a-vps ]

@@ -1,0 +1,1 @@
+// Laws of the definition, and the promises that follow from them. There is no code here.
