@@ -6,3 +6,4 @@ pub mod FieldLaws
 pub mod CodeLaws
 pub mod ByteLaws
 pub mod WriteLaws
+pub mod TrailingLaws
