@@ -41,9 +41,12 @@ trails s at next e = go (ltb at (8 * length s)) refl (eqb (bitAt s at) 1) refl (
     go : (a : Bool) → ltb at (8 * length s) ≡ a → (b : Bool) → eqb (bitAt s at) 1 ≡ b → (c : Bool) → eqb (fieldAt s (at + 1) (toBoundary (at + 1))) 0 ≡ c
         → cond a (cond b (cond c (success (at + 1 + toBoundary (at + 1))) (refusal 29)) (refusal 28)) (refusal 27) ≡ success next → Trails s at next
     go true f true g true h i =
-        record
-        { inside = ltb-true at (8 * length s) f; stop = eqb-true (bitAt s at) 1 g
-        ; zeros = eqb-true (fieldAt s (at + 1) (toBoundary (at + 1))) 0 h; behind = cc }
+        record {
+          inside = ltb-true at (8 * length s) f;
+          stop = eqb-true (bitAt s at) 1 g;
+          zeros = eqb-true (fieldAt s (at + 1) (toBoundary (at + 1))) 0 h;
+          behind = cc;
+        }
     go true f true g false h i = past i
     go true f false g c h i = past i
     go false f b g c h i = past i
@@ -71,6 +74,9 @@ trails-inside s at next t = let i = t .inside in let b = t .behind in omega arit
 pub trails-agree : (s s′ : List ℕ) (at next : ℕ) → Trails s at next → Agree s s′ next → next ≤ 8 * length s′ → Trails s′ at next
 trails-agree s s′ at next t a l =
     let b = t .behind in
-    record
-    { inside = omega arith; stop = sym (a at (omega arith)) ∙ t .stop
-    ; zeros = sym (field-agree s s′ (at + 1) (toBoundary (at + 1)) next a (omega arith)) ∙ t .zeros; behind = b }
+    record {
+      inside = omega arith;
+      stop = sym (a at (omega arith)) ∙ t .stop;
+      zeros = sym (field-agree s s′ (at + 1) (toBoundary (at + 1)) next a (omega arith)) ∙ t .zeros;
+      behind = b;
+    }

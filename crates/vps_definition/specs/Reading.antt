@@ -8,9 +8,9 @@ use Rattle.refusals.specs.Answer.{Answer}
 use Rattle.refusals.specs.Answer.Answer.{success, refusal}
 use Rattle.refusals.specs.Number.{unit-too-short, not-a-vps, rbsp-too-long}
 use Rattle.stuffing.specs.Stuffing.{unstuff}
-use Rattle.bits.specs.Bits.{bitAt}
+use Rattle.bits.specs.Bits.{bitAt, toBoundary}
 use Rattle.bits.specs.Reading.{moreData, trailingAt}
-use Rattle.vps_definition.specs.Syntax.{Outcome, run}
+use Rattle.vps_definition.specs.Syntax.{Outcome, run, Span, span, spans}
 use Rattle.vps_definition.specs.Syntax.Outcome.{accepted, refused}
 use Rattle.vps_definition.specs.Vps.{vps}
 use Rattle.vps_definition.specs.Record.{recordOf}
@@ -48,6 +48,16 @@ closed s (refused n t) = refuses n
 
 unfoldable pub readRbsp : List ℕ → Reading
 readRbsp s = closed s (run vps s 0)
+
+-- the bits that the reading takes: the table's, the extension's, and the trailing bits
+unfoldable pub closedSpans : List ℕ → Outcome (List ℕ) → List Span
+closedSpans s (accepted general t at) =
+    let n = extensionBits (getD general 8 0) s at in
+    span at (at + n) ∷ span (at + n) (at + n + 1 + toBoundary (at + n + 1)) ∷ []
+closedSpans s (refused n t) = []
+
+unfoldable pub rbspSpans : List ℕ → List Span
+rbspSpans s = spans vps s 0 ++ closedSpans s (run vps s 0)
 
 abbrev pub most-rbsp-bytes : ℕ
 most-rbsp-bytes = 65535

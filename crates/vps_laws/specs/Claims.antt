@@ -1,0 +1,90 @@
+-- The facts behind the promises, in the promises' form.
+use Prim.Native.Nat.{ℕ, zero, suc, _+_, _*_, _≤_, _<_}
+use mathlib.Core.Path.{_≡_, refl, sym, ap, _∙_}
+use mathlib.Core.List.{List, [], _∷_, _++_}
+use mathlib.Core.Bool.{Bool, true, false}
+use native.Mathlib.Omega.{arith}
+use lib.ListN.{length, getD, drop}
+use Rattle.refusals.specs.Answer.{Answer}
+use Rattle.refusals.specs.Answer.Answer.{success, refusal}
+use Rattle.stuffing.specs.Stuffing.{unstuff}
+use Rattle.bits.specs.TrailingLaws.{Trails, trails-inside}
+use Rattle.vps_definition.specs.Syntax.{Span, span, spans, run}
+use Rattle.vps_definition.specs.Syntax.Outcome.{accepted}
+use Rattle.vps_definition.specs.Vps.{vps}
+use Rattle.vps_definition.specs.Reading.{extensionBits, closedSpans, rbspSpans, readRbsp, most-rbsp-bytes, readUnit}
+use Rattle.vps_definition.specs.Reading.Reading.{accepts}
+use Rattle.vps_definition.specs.Writing.{unitOf, writeRecord, wellFormed}
+use Rattle.vps_laws.specs.Reading.{Each, each-join, Within, spans-inside}
+use Rattle.vps_laws.specs.Keeps.{Below}
+use Rattle.vps_laws.specs.Units.{Parts, rbsp-parts, Accepted, unit-accepted, written-read}
+use Rattle.vps_laws.specs.Accepted.{Rewritten, rbsp-rewritten}
+use Rattle.vps_laws.specs.Indices.{RisingFrom, Inside}
+use Rattle.vps_laws.specs.Laid.{Sound, record-sound}
+
+-- ── Lists ─────────────────────────────────────────────────────────────
+pub rising : (n : ℕ) (l : List ℕ) → RisingFrom n l → (i : ℕ) → i + 1 < length l → getD l i 0 < getD l (i + 1) 0
+rising n [] h i k = absurd (omega arith)
+rising n (a ∷ []) h i k = absurd (omega arith)
+rising n (a ∷ b ∷ l) h zero k = omega (arith, h .1 .0)
+rising n (a ∷ b ∷ l) h (suc i) k =
+    let e : suc i + 1 ≡ suc (i + 1) = omega arith in
+    rw e (rising (a + 1) (b ∷ l) (h .1) i (omega arith))
+
+pub below : (n : ℕ) (l : List ℕ) → Below n l → (i : ℕ) → i < length l → getD l i 0 < n
+below n [] h i k = absurd (omega arith)
+below n (a ∷ l) h zero k = h .0
+below n (a ∷ l) h (suc i) k = below n l (h .1) i (omega arith)
+
+-- ── Accepted units ────────────────────────────────────────────────────
+-- the RBSP of a unit
+abbrev pub rbspIn : List ℕ → List ℕ
+rbspIn u = unstuff (drop 2 u)
+
+pub accepted-reads : (u r : List ℕ) (n : ℕ) → readUnit u ≡ accepts r n → readRbsp (rbspIn u) ≡ accepts r n
+accepted-reads u r n e = let A = unit-accepted u r n e in ap (λ (x : List ℕ). readRbsp (rbspIn x)) (A .bytes) ∙ A .reads
+
+pub accepted-short : (u r : List ℕ) (n : ℕ) → readUnit u ≡ accepts r n → length (rbspIn u) ≤ most-rbsp-bytes
+accepted-short u r n e = let A = unit-accepted u r n e in rw (A .bytes) (A .short)
+
+pub accepted-sound : (u r : List ℕ) (n : ℕ) → readUnit u ≡ accepts r n → Sound r
+accepted-sound u r n e =
+    let P = rbsp-parts (rbspIn u) r n (accepted-reads u r n e) in
+    rw (P .is) (record-sound (rbspIn u) (P .general) (P .tokens) (P .behind) _ (P .reads))
+
+pub accepted-written : (u r : List ℕ) (n : ℕ) → readUnit u ≡ accepts r n → (v : List ℕ) × (writeRecord r ≡ success v)
+accepted-written u r n e =
+    let W = rbsp-rewritten (rbspIn u) r n (accepted-short u r n e) (accepted-reads u r n e) in
+    (unitOf (W .rbsp), W .written)
+
+pub written-well-formed : (r u : List ℕ) → writeRecord r ≡ success u → wellFormed r ≡ true
+unfolding wellFormed
+written-well-formed r u e = ap (λ (a : Answer (List ℕ)). elim a as (λ d. Bool) [ success b ↦ true | refusal n ↦ false ]) e
+
+pub well-formed-written : (r : List ℕ) → wellFormed r ≡ true → (u : List ℕ) × (writeRecord r ≡ success u)
+unfolding wellFormed
+well-formed-written r e = go (writeRecord r) refl e
+  where
+    go : (a : Answer (List ℕ)) → writeRecord r ≡ a → elim a as (λ d. Bool) [ success b ↦ true | refusal n ↦ false ] ≡ true → (u : List ℕ) × (writeRecord r ≡ success u)
+    go (success u) f g = (u, f)
+    go (refusal n) f g = absurd (let n : _≡_ {A = ℕ} 0 1 = cc in omega arith)
+
+-- ── Bits ──────────────────────────────────────────────────────────────
+each-so : {A : Type 0} (P Q : A → Type 0) (l : List A) → ((a : A) → P a → Q a) → Each P l → Each Q l
+each-so P Q [] f h = tt
+each-so P Q (a ∷ l) f h = (f a (h .0), each-so P Q l f (h .1))
+
+pub bits-counted : (s r : List ℕ) (n : ℕ) → readRbsp s ≡ accepts r n → (n ≤ 8 * length s) × Each (λ sp. sp .to ≤ n) (rbspSpans s)
+unfolding rbspSpans closedSpans
+bits-counted s r n e =
+    let P = rbsp-parts s r n e in
+    let at : ℕ = P .behind in
+    let m : ℕ = extensionBits (getD (P .general) 8 0) s at in
+    let T = P .ends in
+    let b = T .behind in
+    let l : at ≤ n = omega arith in (
+      trails-inside s (at + m) n T,
+      each-join (λ sp. sp .to ≤ n) (spans vps s 0) (closedSpans s (run vps s 0))
+          (each-so (Within 0 at) (λ sp. sp .to ≤ n) (spans vps s 0) (λ sp h. omega (arith, h .2)) (spans-inside vps s 0 (P .reads)))
+          (rw (P .reads) (omega arith, (omega arith, tt))),
+    )
