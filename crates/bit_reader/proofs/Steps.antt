@@ -1,0 +1,152 @@
+-- What the steps of the bit reader rest on, over plain numbers.
+use Prim.Native.Nat.{ℕ, zero, suc, _+_, _*_, _-_, _/_, _%_, _^_, _≤_, _<_}
+use mathlib.Core.Path.{_≡_, refl, sym, ap, _∙_}
+use mathlib.Core.List.{List, [], _∷_, _++_}
+use mathlib.Core.Bool.{Bool, true, false, cond}
+use native.Mathlib.Nat.{two-pow-succ, zero-div, one-mul}
+use native.Mathlib.Omega.{arith}
+use borrow.Author.Tests.{ltb-true, ltb-false, lt-ltb, le-ltb}
+use lib.Count.{ones, leadingZeros, leading-top}
+use lib.Dec.{ltb, lit<}
+use lib.ListN.{length, getD, replicate, length-replicate}
+use lib.Pow.{high, pow-pos, shl-exact}
+use Rattle.refusals.specs.Number.{code-too-long}
+use Rattle.bits.specs.Bits.{bitAt, fieldAt, fieldWidth, onesAt, toBoundary, bitsOf}
+use Rattle.bits.specs.Code.{zerosAt, codeBehind, codeAt}
+use Rattle.bits.specs.Code.Taken.{taken, refused}
+use Rattle.bits.specs.FieldLaws.{bit-lt, bit-past-end, one-inside, field-lt, field-one, field-split, field-high, field-low, field-byte, ones-split, ones-of-field, BitsAt, bits-right, bits-field, bits-of-zero}
+use Rattle.bits.specs.CodeLaws.{zeros-to-end, zeros-past-end, zeros-all, code-at}
+
+-- ── Fields ────────────────────────────────────────────────────────────
+-- a width of 32 at the most is the field's width
+pub width-is : (w : ℕ) → w ≤ 32 → fieldWidth w ≡ w
+width-is w h = go (ltb w 32) refl
+  where
+    go : (t : Bool) → ltb w 32 ≡ t → cond t w 32 ≡ w
+    go true e = refl
+    go false e = omega (arith, ltb-false w 32 e)
+
+-- the other way: a field's width below 32 is the width asked for, and is never more
+pub width-short : (w : ℕ) → fieldWidth w < 32 → fieldWidth w ≡ w
+width-short w = go (ltb w 32)
+  where
+    go : (t : Bool) → cond t w 32 < 32 → cond t w 32 ≡ w
+    go true h = refl
+    go false h = absurd (omega arith)
+
+pub width-le : (w : ℕ) → fieldWidth w ≤ w
+width-le w = go (ltb w 32) refl
+  where
+    go : (t : Bool) → ltb w 32 ≡ t → cond t w 32 ≤ w
+    go true e = omega arith
+    go false e = ltb-false w 32 e
+
+-- five bytes are a field of 40 bits
+pub five-bytes : (s : List ℕ) (i : ℕ) → ((j : ℕ) → getD s j 0 < 256)
+    → (((getD s i 0 * 256 + getD s (i + 1) 0) * 256 + getD s (i + 2) 0) * 256 + getD s (i + 3) 0) * 256 + getD s (i + 4) 0 ≡ fieldAt s (8 * i) 40
+five-bytes s i h = omega (arith, field-byte s i (h i), behind 1, behind 2, behind 3, behind 4)
+  where
+    -- n bytes, and then one more
+    behind : (n : ℕ) → fieldAt s (8 * i) (8 * n + 8) ≡ fieldAt s (8 * i) (8 * n) * 256 + getD s (i + n) 0
+    behind n =
+        let e : 8 * i + 8 * n ≡ 8 * (i + n) = omega arith in
+        field-split s (8 * i) (8 * n) 8 ∙ rw (e, field-byte s (i + n) (h (i + n))) refl
+
+-- a field among the 40 bits of the five bytes where it begins
+pub field-in-window : (s : List ℕ) (at w : ℕ) → w ≤ 32 → fieldAt s (8 * (at / 8)) 40 / 2 ^ (40 - at % 8 - w) % 2 ^ w ≡ fieldAt s at w
+field-in-window s at w h =
+    let n : 40 ≡ at % 8 + w + (40 - at % 8 - w) = omega arith in
+    let a : 8 * (at / 8) + at % 8 ≡ at = omega arith in
+    let f : fieldAt s (8 * (at / 8)) 40 / 2 ^ (40 - at % 8 - w) ≡ fieldAt s (8 * (at / 8)) (at % 8 + w) = ap (λ (m : ℕ). fieldAt s (8 * (at / 8)) m / 2 ^ (40 - at % 8 - w)) n ∙ field-high s (8 * (at / 8)) (at % 8 + w) (40 - at % 8 - w) in
+    rw f (field-low s (8 * (at / 8)) (at % 8) w ∙ rw a refl)
+
+-- the power that a shift of 1 gives
+pub one-shl : (k w : ℕ) → k < w → 1 * 2 ^ k % 2 ^ w ≡ 2 ^ k
+one-shl k w h = shl-exact 1 k w (lit< tt) (omega arith) ∙ one-mul (2 ^ k)
+
+-- ── Codes ─────────────────────────────────────────────────────────────
+-- a field of 0 is zeros, and a field of 1 is zeros and then a one
+bits-of-zero-field : (s : List ℕ) (at n : ℕ) → fieldAt s at n ≡ 0 → BitsAt s at (replicate n 0)
+bits-of-zero-field s at n e = rw (e, bits-of-zero n) at (bits-field s at n)
+
+bits-of-one-field : (s : List ℕ) (at k : ℕ) → fieldAt s at (suc k) ≡ 1 → BitsAt s at (replicate k 0 ++ (1 ∷ []))
+unfolding bitsOf
+bits-of-one-field s at k e = rw (e, bitsOf, bits-of-zero k) at (bits-field s at (suc k))
+
+-- 32 zeros are no code
+pub no-code : (s : List ℕ) (at : ℕ) → fieldAt s at 32 ≡ 0 → 32 ≤ 8 * length s - at → codeAt s at ≡ refused code-too-long
+unfolding codeAt
+no-code s at e h = rw (zeros-all s at 32 (omega arith) (bits-of-zero-field s at 32 e)) refl
+
+-- fewer, up to the end, are the prefix of a code whose suffix is 0
+pub code-cut : (s : List ℕ) (at n : ℕ) → fieldAt s at 32 ≡ 0 → n < 32 → n ≡ 8 * length s - at → codeAt s at ≡ taken (2 ^ n - 1) (at + 2 * n)
+unfolding codeAt codeBehind
+code-cut s at n e l q =
+    let m : at + n + n ≡ at + 2 * n = omega arith in
+    rw (counted (ltb at (8 * length s)) refl, lt-ltb n 32 l, le-ltb (at + n) (8 * length s) (omega arith), m) refl
+  where
+    zeros : fieldAt s at n ≡ 0
+    zeros =
+        let m : n + (32 - n) ≡ 32 = omega arith in
+        sym (rw m at (field-high s at n (32 - n))) ∙ rw (e, zero-div (2 ^ (32 - n))) refl
+
+    counted : (t : Bool) → ltb at (8 * length s) ≡ t → zerosAt s at 32 ≡ n
+    counted true f = let g = ltb-true at (8 * length s) f in zeros-to-end s at 32 n (omega arith) (omega arith) (bits-of-zero-field s at n zeros)
+    counted false f = let g = ltb-false at (8 * length s) f in zeros-past-end s at 32 g ∙ omega arith
+
+-- behind k zeros stands the first one, and the code is the number in k + 1 bits from it on, less one
+pub record FirstOne (s : List ℕ) (at k : ℕ) : Type 0 where
+  pub short : k < 32
+  pub some : 1 ≤ fieldAt s (at + k) (k + 1)
+  pub code : codeAt s at ≡ taken (fieldAt s (at + k) (k + 1) - 1) (at + k + (k + 1))
+
+pub first-one : (s : List ℕ) (at window : ℕ) → window ≡ fieldAt s at 32 → (window ≡ 0 → ⊥) → FirstOne s at (leadingZeros 32 window)
+first-one s at window e n = let t = leading-top 32 window (omega arith) (omega (arith, field-lt s at 32)) in go (leadingZeros 32 window) (t .0) (t .1) (omega (arith, t .2)) (omega (arith, t .3))
+  where
+    go : (k j : ℕ) → k + suc j ≡ 32 → 2 ^ j ≤ fieldAt s at 32 → fieldAt s at 32 < 2 ^ suc j → FirstOne s at k
+    go k j e f g =
+        let m : suc k + j ≡ 32 = omega arith in
+        let x : 1 * 2 ^ j + (fieldAt s at 32 - 2 ^ j) ≡ fieldAt s at 32 = omega arith in
+        let q : fieldAt s at 32 / 2 ^ j ≡ 1 = rw x at (high 1 j {lo = fieldAt s at 32 - 2 ^ j} (omega (arith, two-pow-succ j))) in
+        let b : BitsAt s at (replicate k 0 ++ (1 ∷ [])) = bits-of-one-field s at k (sym (rw m at (field-high s at (suc k) j)) ∙ q) in
+        let o : bitAt s (at + k) ≡ 1 = rw length-replicate at (bits-right s at (replicate k 0) (1 ∷ []) b .0) in
+        let a : k + 1 ≡ 1 + k = omega arith in
+        let d : fieldAt s (at + k) (k + 1) ≡ 2 ^ k + fieldAt s (at + k + 1) k = rw (a, field-split s (at + k) 1 k, field-one s (at + k), o, one-mul) refl in
+        let p = pow-pos k in
+        let v : 2 ^ k - 1 + fieldAt s (at + k + 1) k ≡ fieldAt s (at + k) (k + 1) - 1 = omega arith in
+        let y : at + k + 1 + k ≡ at + k + (k + 1) = omega arith in
+        record { short = omega arith; some = omega arith; code = code-at s at k (omega arith) (one-inside s (at + k) o) b ∙ rw (v, y) refl }
+
+-- ── Trailing bits ─────────────────────────────────────────────────────
+-- behind the stop bit the boundary is as far as the byte's bits behind it
+pub behind-stop : (at : ℕ) → toBoundary (at + 1) ≡ 7 - at % 8
+behind-stop at = omega arith
+
+-- a bit that is not 0 is 1
+pub bit-one : (s : List ℕ) (at : ℕ) → (bitAt s at ≡ 0 → ⊥) → bitAt s at ≡ 1
+bit-one s at n = omega (arith, bit-lt s at)
+
+-- ── Ones ──────────────────────────────────────────────────────────────
+-- the ones of more bits are no fewer
+pub ones-grow : (s : List ℕ) (at m n : ℕ) → m ≤ n → onesAt s at m ≤ onesAt s at n
+ones-grow s at m n h = let e : m + (n - m) ≡ n = omega arith in omega (arith, rw e at (ones-split s at m (n - m)))
+
+-- past the end there are none
+ones-past-end : (s : List ℕ) (at n : ℕ) → 8 * length s ≤ at → onesAt s at n ≡ 0
+unfolding onesAt
+ones-past-end s at zero h = refl
+ones-past-end s at (suc n) h = omega (arith, ones-past-end s at n h, bit-past-end s (at + n) (omega arith))
+
+-- so the ones of bits that reach the end are all that remain
+pub ones-to-end : (s : List ℕ) (at n : ℕ) → 8 * length s ≤ at + n → onesAt s at n ≡ onesAt s at (8 * length s - at)
+ones-to-end s at n h =
+    let d : ℕ = 8 * length s - at in
+    let e : d + (n - d) ≡ n = omega arith in
+    omega (arith, rw e at (ones-split s at d (n - d)), ones-past-end s (at + d) (n - d) (omega arith))
+
+-- the bits to the end of the byte at i, and then another byte
+pub ones-of-byte : (s : List ℕ) (at i : ℕ) → getD s i 0 < 256 → at ≤ 8 * i → onesAt s at (8 * (i + 1) - at) ≡ onesAt s at (8 * i - at) + ones (getD s i 0)
+ones-of-byte s at i h l =
+    let e : 8 * (i + 1) - at ≡ 8 * i - at + 8 = omega arith in
+    let p : at + (8 * i - at) ≡ 8 * i = omega arith in
+    rw (e, ones-split s at (8 * i - at) 8, p, ones-of-field s (8 * i) 8, field-byte s i h) refl
