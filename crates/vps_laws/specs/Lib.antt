@@ -19,3 +19,5 @@ pub mod Indices
 pub mod Laid
 pub mod Claims
 pub mod Promises
+pub mod Bound
+pub mod Order
