@@ -1,0 +1,94 @@
+// Cases of writing bits: place, width, number, value, place behind, the buffer before, the buffer afterwards.
+use crate::content::behind;
+use crate::content::byte_at;
+use crate::content::copy;
+use crate::content::eight_bytes;
+use crate::content::first;
+use crate::content::four_bytes;
+use bit_writer::WritePlace;
+use bit_writer::Wrote;
+
+// Steps of the writer; the trailing bits are the fifth.
+const BIT: u8 = 1;
+
+const FIELD: u8 = 2;
+
+const CODE: u8 = 3;
+
+const ALIGNMENT: u8 = 4;
+
+// Whether an answer is the number recorded, or success with the place recorded.
+pub fn is_wrote(answer: Wrote, number: u32, next: usize) -> bool {
+    match answer {
+        Wrote::To(place) => {
+            if number != 0 {
+                return false;
+            }
+            place.bit_pos == next
+        }
+        Wrote::Refused(n) => {
+            if number == 0 {
+                return false;
+            }
+            n == number
+        }
+    }
+}
+
+fn write_value(step: u8, out: &mut [u8], at: usize, width: u32, value: u32) -> Wrote {
+    let place = WritePlace { bit_pos: at };
+    if step == BIT {
+        return place.write_bit(out, value);
+    }
+    if step == FIELD {
+        return place.write_bits(out, value, width);
+    }
+    place.write_ue(out, value)
+}
+
+fn write_end(step: u8, out: &mut [u8], at: usize) -> Wrote {
+    let place = WritePlace { bit_pos: at };
+    if step == ALIGNMENT {
+        return place.align_to_byte(out);
+    }
+    place.write_rbsp_trailing_bits(out)
+}
+
+// A step of the writer at a place.
+pub fn write(step: u8, out: &mut [u8], at: usize, width: u32, value: u32) -> Wrote {
+    if step <= CODE {
+        return write_value(step, out, at, width, value);
+    }
+    write_end(step, out, at)
+}
+
+// Replays a step on a buffer of just the length recorded.
+fn is_buffer_same(step: u8, content: &[u8], before: &[u8], after: &[u8], out: &mut [u8]) -> bool {
+    copy(before, out);
+    let at = eight_bytes(content);
+    let width = four_bytes(behind(content, 8));
+    let answer = write(step, out, at, width, four_bytes(behind(content, 13)));
+    if !check::same(out, after) {
+        return false;
+    }
+    is_wrote(
+        answer,
+        byte_at(content, 12),
+        eight_bytes(behind(content, 17)),
+    )
+}
+
+pub fn is_same(step: u8, content: &[u8], out: &mut [u8]) -> bool {
+    let buffers = behind(content, 25);
+    let room = buffers.len() / 2;
+    if room > out.len() {
+        return false;
+    }
+    is_buffer_same(
+        step,
+        content,
+        first(buffers, room),
+        behind(buffers, room),
+        &mut out[0..room],
+    )
+}

@@ -1,0 +1,37 @@
+// A list for a replay program: records of a tag, a length in two bytes and so many bytes of content.
+// Numbers stand with their highest byte first. A record of tag 0 ends a kind of cases and names it.
+#[derive(Default)]
+pub struct List {
+    bytes: Vec<u8>,
+    count: usize,
+    counts: String,
+}
+
+impl List {
+    pub fn case(&mut self, tag: u8, content: &[u8]) {
+        self.record(tag, content);
+        self.count += 1;
+    }
+
+    pub fn end_of_kind(&mut self, name: &str) {
+        self.record(0, name.as_bytes());
+        self.counts += &format!("{name} {}\n", self.count);
+        self.count = 0;
+    }
+
+    fn record(&mut self, tag: u8, content: &[u8]) {
+        assert!(content.len() <= 4096, "a record must fit the replay program's buffer");
+        self.bytes.push(tag);
+        self.bytes.extend((content.len() as u16).to_be_bytes());
+        self.bytes.extend(content);
+    }
+
+    pub fn bytes(&self) -> &[u8] {
+        &self.bytes
+    }
+
+    // What the replay program is to print.
+    pub fn expected(&self) -> String {
+        format!("{}different 0\n", self.counts)
+    }
+}
