@@ -1,17 +1,28 @@
 // The Rust's answers, by sub-command: each is a module of its own.
+mod changed_records;
+mod definition_units;
+mod draft;
 mod leaves;
 mod list;
 mod random;
+mod record;
 mod records;
+mod refusal;
 mod show;
+mod structures;
+mod units;
 
 use std::io::Write;
 use std::process::ExitCode;
 
-const USAGE: &str = "oracle leaves            the list that crates/leaves_replay replays, as bytes
-oracle leaves expected   what it is to print
-oracle show HEX          the Rust's answer for a unit
-oracle records           what the Rust writes for records that are not well formed";
+const USAGE: &str = "oracle leaves                                the list that crates/leaves_replay replays, as bytes
+oracle leaves expected                       what it is to print
+oracle show HEX                              the Rust's answer for a unit
+oracle records                               what the Rust writes for records that are not well formed
+oracle units SEED COUNT MAXBYTES             a line a unit: bytes, and record with bits used, or refusal
+oracle units-summary SEED COUNT MAXBYTES     how many of those each refusal and each shape has
+oracle changed-records SEED COUNT MAXBYTES   a line a record: numbers, and the unit of at most so many bytes, or 31
+oracle definition-units FOLDER               writes the tables of crates/definition_units into that folder";
 
 fn main() -> ExitCode {
     let arguments: Vec<String> = std::env::args().skip(1).collect();
@@ -24,6 +35,22 @@ fn main() -> ExitCode {
             None => fail("not pairs of hexadecimal digits"),
         },
         ["records"] => write_out(records::answers().as_bytes()),
+        ["units", numbers @ ..] => write_lines(units::lines, numbers),
+        ["units-summary", numbers @ ..] => write_lines(units::summary, numbers),
+        ["changed-records", numbers @ ..] => write_lines(changed_records::lines, numbers),
+        ["definition-units", folder] => match definition_units::write(folder) {
+            Ok(counts) => write_out(counts.as_bytes()),
+            Err(error) => fail(&error.to_string()),
+        },
+        _ => fail(USAGE),
+    }
+}
+
+// What a module makes of a seed, a count and the most bytes of a unit.
+fn write_lines(lines: fn(u64, usize, usize) -> String, words: &[&str]) -> ExitCode {
+    let numbers: Option<Vec<u64>> = words.iter().map(|word| word.parse().ok()).collect();
+    match numbers.as_deref() {
+        Some(&[seed, count, longest]) => write_out(lines(seed, count as usize, longest as usize).as_bytes()),
         _ => fail(USAGE),
     }
 }
