@@ -21,7 +21,7 @@ use Rattle.vps_definition.specs.Vps.{Header, Head, head, slotAt, slot-number-if
 use Rattle.vps_laws.specs.Bind.{run-bound}
 use Rattle.vps_laws.specs.RoundTrip.{Coherent, skim-run}
 use Rattle.vps_laws.specs.Keeps.{Keeps, Returns, numbers-append, keeps-so, keeps-both, keeps-bind, keeps-done, keeps-check, keeps-inferred, keeps-aligned, returns-bind}
-use Rattle.vps_laws.specs.Coherence.{Coh, Local, local-bind, local-done, local-test, local-inferred, local-u-minus1, local-check, local-aligned, local-loop, Ahead, ahead-bind, ahead-late, ahead-test, ahead-local, ahead-done, coh-ahead, silent-bind}
+use Rattle.vps_laws.specs.Coherence.{Coh, Local, local-bind, local-done, local-test, local-inferred, local-u-minus1, local-check, local-aligned, local-loop, Ahead, ahead-bind, ahead-late, ahead-test, ahead-local, ahead-done, ahead-so, coh-ahead, silent-bind}
 use Rattle.vps_laws.specs.Tables.{local-profile-tier-level}
 
 -- slot i begins with a head
@@ -86,10 +86,6 @@ ahead-bind-so S Q {m} {f} R M N F = record {
       (F (B .result) k .there s (B .middle) r x (B .second) h);
 }
 
--- more may be asked of the record
-ahead-so : {A : Type 0} {P Q : List ℕ → List ℕ → A → Type 0} {m : Syntax A} → Ahead P m → ((r x : List ℕ) (a : A) → Q r x a → P r x a) → Ahead Q m
-ahead-so M h = record { silent = M .silent; there = λ s at r x e q. M .there s at r x e (h r x _ q) }
-
 -- the heads from the i-th on stand in their slots
 From : ℕ → List ℕ → List ℕ → List Head → Type 0
 From i r x b = (j : ℕ) → i ≤ j → j < length b → Heading r x j (headAt b j)
@@ -102,7 +98,7 @@ ahead-heads h (suc n) i hs e =
     (keeps-so (head-longer h i hs) (λ k t f. ap length (f .1) ∙ length-append hs (f .0 ∷ []) ∙ ap (λ (m : ℕ). m + 1) e))
     (ahead-head h i hs e)
     (λ k l. keeps-so (heads-longer h n (i + 1) k) (λ b t f r x H. first k b (f .0) (f .1) l r x H))
-    (λ k l. ahead-so (ahead-heads h n (i + 1) k l) (λ r x b H j m. H j (omega arith)))
+    (λ k l. ahead-so (ahead-heads h n (i + 1) k l) (record { holds = λ s at e r x H j m. H j (omega arith) }))
   where
     first : (k b l : List Head) → b ≡ k ++ l → length k ≡ i + 1 → (r x : List ℕ) → ((j : ℕ) → i ≤ j → j < length b → Heading r x j (headAt b j)) → Heading r x i (headAt k i)
     first k b l f g r x H =
