@@ -108,7 +108,7 @@ unfolding run Fits
 meets-no {m = m} {n = n} {s = s} {c = c} {a = a} {c′ = c′} {rec = rec} {rec′ = rec′} e M = subst (λ (b : Bool). Meets (test b m n) s c a c′ rec rec′) (sym e) (record { goes = λ l F. M .goes l F; stays = M .stays })
 
 -- ── Loops ─────────────────────────────────────────────────────────────
-bind-assoc : {A B C : Type 0} (m : Syntax A) (f : A → Syntax B) (g : B → Syntax C) → (m >>= f) >>= g ≡ m >>= (λ a. f a >>= g)
+pub bind-assoc : {A B C : Type 0} (m : Syntax A) (f : A → Syntax B) (g : B → Syntax C) → (m >>= f) >>= g ≡ m >>= (λ a. f a >>= g)
 unfolding _>>=_
 bind-assoc (field w plus k) f g = ap (field w plus) (λ i v. bind-assoc (k v) f g i)
 bind-assoc (code plus k) f g = ap (code plus) (λ i v. bind-assoc (k v) f g i)
@@ -120,7 +120,7 @@ bind-assoc (test b m n) f g = λ i. test b (bind-assoc m f g i) (bind-assoc n f 
 bind-assoc (refuse q) f g = refl
 bind-assoc (done a) f g = refl
 
-bind-unit : {A : Type 0} (m : Syntax A) → m >>= done ≡ m
+pub bind-unit : {A : Type 0} (m : Syntax A) → m >>= done ≡ m
 unfolding _>>=_
 bind-unit (field w plus k) = ap (field w plus) (λ i v. bind-unit (k v) i)
 bind-unit (code plus k) = ap (code plus) (λ i v. bind-unit (k v) i)
