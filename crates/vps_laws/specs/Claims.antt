@@ -12,6 +12,7 @@ use Rattle.bits.specs.TrailingLaws.{Trails, trails-inside}
 use Rattle.vps_definition.specs.Syntax.{Span, span, spans, run}
 use Rattle.vps_definition.specs.Syntax.Outcome.{accepted}
 use Rattle.vps_definition.specs.Vps.{vps}
+use Rattle.vps_definition.specs.Layout.{fromSection, entryLength, idsFrom, layerIds}
 use Rattle.vps_definition.specs.Reading.{extensionBits, closedSpans, rbspSpans, readRbsp, most-rbsp-bytes, readUnit}
 use Rattle.vps_definition.specs.Reading.Reading.{accepts}
 use Rattle.vps_definition.specs.Writing.{unitOf, writeRecord, wellFormed}
@@ -35,6 +36,15 @@ pub below : (n : ℕ) (l : List ℕ) → Below n l → (i : ℕ) → i < length 
 below n [] h i k = absurd (omega arith)
 below n (a ∷ l) h zero k = h .0
 below n (a ∷ l) h (suc i) k = below n l (h .1) i (omega arith)
+
+ids-from-many : (n i : ℕ) (x : List ℕ) → length (idsFrom n i x) ≡ n
+unfolding idsFrom
+ids-from-many zero i x = refl
+ids-from-many (suc n) i x = ap suc (ids-from-many n (i + 1) (drop (entryLength i x) x))
+
+pub ids-many : (r : List ℕ) → length (layerIds r) ≡ getD r 0 0
+unfolding layerIds
+ids-many r = ids-from-many (getD r 0 0) 0 (fromSection r 1)
 
 -- ── Accepted units ────────────────────────────────────────────────────
 -- the RBSP of a unit

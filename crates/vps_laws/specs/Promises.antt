@@ -16,7 +16,7 @@ use Rattle.vps_definition.specs.Writing.{writeRecord, wellFormed}
 use Rattle.vps_laws.specs.Reading.{Each}
 use Rattle.vps_laws.specs.Units.{written-read, written-once}
 use Rattle.vps_laws.specs.Accepted.{unit-appended}
-use Rattle.vps_laws.specs.Claims.{rising, below, accepted-reads, accepted-sound, accepted-written, written-well-formed, well-formed-written, bits-counted}
+use Rattle.vps_laws.specs.Claims.{ids-many, rising, below, accepted-reads, accepted-sound, accepted-written, written-well-formed, well-formed-written, bits-counted}
 
 -- 1. Every accepted unit's record is well formed and is written; what was written is accepted with that record,
 -- and the bits used are eight times its RBSP's bytes.
@@ -26,10 +26,11 @@ accepted-is-written u r n e = let W = accepted-written u r n e in (written-well-
 pub written-is-read-back : (r u : List ℕ) → writeRecord r ≡ success u → readUnit u ≡ accepts r (8 * length (unstuff (drop 2 u)))
 written-is-read-back = written-read
 
--- 2. Of an accepted record, by its own numbers: each layer id is above the one before; each set's PTL index is below the
+-- 2. Of an accepted record, by its own numbers: each of the layers' ids is above the one before; each set's PTL index is below the
 -- PTL count, the index among each DPB entry's five below the DPB slots, and each timing index below the timing entries.
-pub layer-ids-rise : (u r : List ℕ) (n : ℕ) → readUnit u ≡ accepts r n → (i : ℕ) → i + 1 < length (layerIds r) → getD (layerIds r) i 0 < getD (layerIds r) (i + 1) 0
-layer-ids-rise u r n e = rising 0 (layerIds r) (accepted-sound u r n e .ids)
+pub layer-ids-rise : (u r : List ℕ) (n : ℕ) → readUnit u ≡ accepts r n
+    → (length (layerIds r) ≡ getD r 0 0) × ((i : ℕ) → i + 1 < length (layerIds r) → getD (layerIds r) i 0 < getD (layerIds r) (i + 1) 0)
+layer-ids-rise u r n e = (ids-many r, rising 0 (layerIds r) (accepted-sound u r n e .ids))
 
 pub ptl-index-inside : (u r : List ℕ) (n : ℕ) → readUnit u ≡ accepts r n
     → (length (ptlIndices r) ≡ setCount r) × ((i : ℕ) → i < length (ptlIndices r) → getD (ptlIndices r) i 0 < ptlCount r)
