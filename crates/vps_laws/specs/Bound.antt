@@ -439,7 +439,7 @@ sets-most h l =
     keeps-bind (keeps-mark (keeps-test _ (λ b. keeps-test _ (λ b. rows-most (h .layers)) (λ b. keeps-keep (keeps-done (omega arith)))) (λ b. keeps-keep (keeps-done (omega arith))))) λ s t k.
     keeps-done k
 
-count-most : (n : ℕ) (p : ℕ → Bool) → countBelow n p ≤ n
+pub count-most : (n : ℕ) (p : ℕ → Bool) → countBelow n p ≤ n
 unfolding countBelow
 count-most zero p = omega arith
 count-most (suc n) p = go (p 0) (count-most n (λ j. p (suc j)))
