@@ -1,3 +1,4 @@
 pub mod Fits
 pub mod Meets
 pub mod Laws
+pub mod Marked

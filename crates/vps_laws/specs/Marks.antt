@@ -27,7 +27,7 @@ marks-append [] u = omega arith
 marks-append (number v ∷ t) u = marks-append t u
 marks-append (section ∷ t) u = omega (arith, marks-append t u)
 
-starts-append : (at : ℕ) (t u : List Token) → starts at (t ++ u) ≡ starts at t ++ starts (at + length (numbers t)) u
+pub starts-append : (at : ℕ) (t u : List Token) → starts at (t ++ u) ≡ starts at t ++ starts (at + length (numbers t)) u
 unfolding starts numbers
 starts-append at [] u = rw add-zero refl
 starts-append at (number v ∷ t) u =
@@ -40,6 +40,12 @@ unfolding starts marks
 starts-length at [] = refl
 starts-length at (number v ∷ t) = starts-length (at + 1) t
 starts-length at (section ∷ t) = ap suc (starts-length at t)
+
+pub starts-none : (at : ℕ) (t : List Token) → marks t ≡ 0 → starts at t ≡ []
+unfolding starts marks
+starts-none at [] e = refl
+starts-none at (number v ∷ t) e = starts-none (at + 1) t e
+starts-none at (section ∷ t) e = absurd (omega (arith, e))
 
 -- the start behind k marks
 starts-at : (at : ℕ) (a b : List Token) → getD (starts at (a ++ (section ∷ b))) (marks a) 0 ≡ at + length (numbers a)
