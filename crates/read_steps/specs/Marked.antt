@@ -54,9 +54,9 @@ marked-then {A} {B} {s} {c} {a} {c₁} {rec} {rec₁} {b} {c₂} {rec₂} {l₁}
         let F₁ = fits-first m f s (c .at) (c .n) F in
         let W : Went (B .result) (B .before) (B .middle) c a c₁ rec rec₁ = subst (λ (x : Outcome A). After x c a c₁ rec rec₁) (B .first) (M .meets .goes o F₁) in
         let F₂ : Fits (f a) s (c₁ .at) (c₁ .n) =
-            subst (λ (z : A). Fits (f z) s (c₁ .at) (c₁ .n)) (sym (W .result))
-            (subst (λ (k : ℕ). Fits (f (B .result)) s k (c₁ .n)) (sym (W .place))
-            (subst (Fits (f (B .result)) s (B .middle)) (sym (W .cursor)) (fits-second m f s (c .at) (c .n) (B .first) F))) in
+        subst (λ (z : A). Fits (f z) s (c₁ .at) (c₁ .n)) (sym (W .result))
+        (subst (λ (k : ℕ). Fits (f (B .result)) s k (c₁ .n)) (sym (W .place))
+        (subst (Fits (f (B .result)) s (B .middle)) (sym (W .cursor)) (fits-second m f s (c .at) (c .n) (B .first) F))) in
         let e₂ : run (f a) s (c₁ .at) ≡ accepted d (B .behind) next = (λ i. run (f (W .result i)) s (W .place i)) ∙ B .second in
         ap (starts (c .n)) (B .both) ∙ starts-append (c .n) (B .before) (B .behind)
         ∙ (λ i. M .marks o F₁ (B .first) i ++ starts (sym (W .cursor) i) (B .behind))
