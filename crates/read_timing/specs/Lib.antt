@@ -1,0 +1,2 @@
+pub mod Hrd
+pub mod Turns
