@@ -10,8 +10,6 @@ ghost use Rattle.read_steps.specs.Fits.{limit};
 // The bytes of an RBSP that is not too long.
 const MOST_RBSP_BYTES: usize = 65_535;
 
-const LIMIT: usize = 0x4000_0000_0000_0000;
-
 // How many bits are read from a place on while more_rbsp_data(): those up to the last one-bit but one, sought from the end.
 pub fn data_bits(bytes: &[u8], at: usize) -> usize
     ensures { λ r. ⌜ (length (now (bytes .entry)) ≤ most-rbsp-bytes → r ≡ dataBits (now (bytes .entry)) at (8 * length (now (bytes .entry)) - at)) ⌝ }
@@ -36,13 +34,13 @@ pub fn data_bits(bytes: &[u8], at: usize) -> usize
 pub fn store_bits(bytes: &[u8], rec: &mut [u32], n: usize, at: usize, count: usize)
     ensures { λ _. ⌜ (at + count < limit → n + count < limit → now (rec .exit) ≡ sets (now (rec .entry)) n (bitsAt (now (bytes .entry)) at count)) ⌝ }
 {
-    if LIMIT <= at {
+    if read_steps::LIMIT <= at {
         return;
     }
-    if LIMIT <= n {
+    if read_steps::LIMIT <= n {
         return;
     }
-    if LIMIT <= count {
+    if read_steps::LIMIT <= count {
         return;
     }
     let mut j = 0;

@@ -14,10 +14,10 @@ use Rattle.vps_definition.specs.Syntax.Token.{number, section}
 use Rattle.vps_definition.specs.Syntax.Outcome.{accepted, refused}
 use Rattle.vps_definition.specs.Words.{loop}
 use Rattle.vps_laws.specs.Bind.{after, thenRead, run-bind}
-use Rattle.vps_laws.specs.Keeps.{numbers-append}
+use Rattle.vps_laws.specs.Keeps.{Keeps, numbers-append}
 use Rattle.read_steps.specs.declared.Cursor.{Cursor}
 use Rattle.read_steps.specs.Fits.{Room, Fits, fits-first, fits-second}
-use Rattle.read_steps.specs.Meets.{Went, Stopped, After, Meets, Opens, Closes, Tested, Shuts}
+use Rattle.read_steps.specs.Meets.{Went, Stopped, After, Meets, Yields, Opens, Closes, Tested, Shuts}
 
 pub sets-append : (l : List ℕ) (i : ℕ) (vs ws : List ℕ) → sets l i (vs ++ ws) ≡ sets (sets l i vs) (i + length vs) ws
 sets-append l i [] ws = rw (add-zero i) refl
@@ -169,3 +169,31 @@ meets-break f n i x l h M =
     let R = loop-more f (n - i) i x in
     let e : i + (n - i) ≡ n = omega arith in
     meets-as (sym (R .1) ∙ ap (λ (k : ℕ). loop f k 0 x) e) (meets-stop (loop f i 0 x) (R .0) h M)
+
+-- ── What is known behind a table ──────────────────────────────────────
+module _ {A B : Type 0} {s : List ℕ} {c : Cursor} {a : A} {c₁ : Cursor} {rec rec₁ : List ℕ} {Q : A → List Token → Type 0} where
+  -- the second of two tables may count on what every reading of the first keeps, and on the cursor's count
+  pub meets-known : {b : B} {c₂ : Cursor} {rec₂ : List ℕ} (m : Syntax A) (f : A → Syntax B) → Keeps Q m → Meets m s c a c₁ rec rec₁
+      → ((t : List Token) → Q a t → c₁ .n ≡ c .n + length (numbers t) → Meets (f a) s c₁ b c₂ rec₁ rec₂) → ((c₁ .refused ≡ 0 → ⊥) → c₂ .refused ≡ c₁ .refused)
+      → Meets (m >>= f) s c b c₂ rec rec₂
+  meets-known {b} {c₂} {rec₂} m f K M N S = record { goes = λ e F. go (run m s (c .at)) refl (M .goes e (fits-first m f s (c .at) (c .n) F)) .goes e F; stays = λ h. S (λ z. h (sym (M .stays h) ∙ z)) ∙ M .stays h }
+    where
+      go : (x : Outcome A) → run m s (c .at) ≡ x → After x c a c₁ rec rec₁ → Meets (m >>= f) s c b c₂ rec rec₂
+      go (accepted d t next) i W = meets-then m f M (N t (subst (λ (z : A). Q z t) (sym (W .result)) (K .holds s (c .at) i)) (W .cursor))
+      go (refused k t) i T = meets-then m f M (record { goes = λ e F. absurd (T .some (sym (T .shut′) ∙ e)); stays = S })
+
+-- ── Numbers that the caller stores ────────────────────────────────────
+-- those of two tables in a row, where the first keeps so many
+pub yields-then : {A B : Type 0} {s : List ℕ} {c : Cursor} {a : A} {c₁ : Cursor} {b : B} {c₂ : Cursor} {vs ws : List ℕ} (m : Syntax A) (f : A → Syntax B)
+    → Keeps (λ a t. length (numbers t) ≡ length vs) m → Yields m s c a c₁ vs → Yields (f a) s c₁ b c₂ ws → Yields (m >>= f) s c b c₂ (vs ++ ws)
+yields-then {s = s} {c = c} {a = a} {c₁ = c₁} {b = b} {c₂ = c₂} {vs = vs} {ws = ws} m f K M N = record {
+  if-stored = λ rec.
+      let l : List ℕ = sets rec (c .n) vs in
+      subst (λ (x : List ℕ). Meets (m >>= f) s c b c₂ rec x) (sym (sets-append rec (c .n) vs ws))
+      (meets-known m f K (M .if-stored rec) (λ t q e. subst (λ (k : ℕ). Meets (f a) s c₁ b c₂ l (sets l k ws)) (e ∙ ap (λ (k : ℕ). c .n + k) q) (N .if-stored l)) (N .if-stored l .stays));
+}
+
+-- those that the caller has stored, where the table fits
+pub yields-stored : {A : Type 0} {m : Syntax A} {s : List ℕ} {c : Cursor} {a : A} {c′ : Cursor} {vs rec rec′ : List ℕ} → Yields m s c a c′ vs → (Fits m s (c .at) (c .n) → rec′ ≡ sets rec (c .n) vs) → Meets m s c a c′ rec rec′
+yields-stored {m = m} {s = s} {c = c} {a = a} {c′ = c′} {rec = rec} L h =
+    record { goes = λ e F. subst (λ (l : List ℕ). After (run m s (c .at)) c a c′ rec l) (sym (h F)) (L .if-stored rec .goes e F); stays = L .if-stored rec .stays }

@@ -32,6 +32,10 @@ pub record Meets {A : Type 0} (m : Syntax A) (s : List ℕ) (c : Cursor) (a : A)
   pub goes : c .refused ≡ 0 → Fits m s (c .at) (c .n) → After (run m s (c .at)) c a c′ rec rec′
   pub stays : (c .refused ≡ 0 → ⊥) → c′ .refused ≡ c .refused
 
+-- numbers that are read, for the caller to store from the cursor on
+pub record Yields {A : Type 0} (m : Syntax A) (s : List ℕ) (c : Cursor) (a : A) (c′ : Cursor) (vs : List ℕ) : Type 0 where
+  pub if-stored : (rec : List ℕ) → Meets m s c a c′ rec (sets rec (c .n) vs)
+
 -- ── The tests of a step ───────────────────────────────────────────────
 -- a cursor from which a step is made
 pub record Opens (c : Cursor) : Type 0 where

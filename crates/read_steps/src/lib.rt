@@ -12,7 +12,7 @@ use bit_reader::ReadPlace;
 use refusals::NOT_WELL_FORMED;
 
 // Places and cursors from here on are never reached: the whole table stays below.
-const LIMIT: usize = 0x4000_0000_0000_0000;
+pub const LIMIT: usize = 0x4000_0000_0000_0000;
 
 // Where a reading is: the bit place, the record's next number, and the refusal that stopped it, or 0.
 pub struct Cursor {
@@ -327,5 +327,37 @@ pub fn align(bytes: &[u8], c: Cursor, number: u32) -> Cursor
         at: c.at + width,
         n: c.n,
         refused: 0,
+    }
+}
+
+// ue(v) that the caller stores.
+pub fn see_code(bytes: &[u8], c: Cursor) -> Took
+    ensures { λ r. ⌜ ((rec : List ℕ) → Meets ue (now (bytes .entry)) c (r .v) (r .next) rec (set rec (c .n) (r .v))) ⌝ }
+{
+    if !is_open(c) {
+        return Took {
+            v: 0,
+            next: shut(c),
+        };
+    }
+    let place = ReadPlace { bit_pos: c.at };
+    let read = place.ue(bytes);
+    match read {
+        Read::Value(v, p) => Took {
+            v,
+            next: Cursor {
+                at: p.bit_pos,
+                n: c.n + 1,
+                refused: 0,
+            },
+        },
+        Read::Refused(number) => Took {
+            v: 0,
+            next: Cursor {
+                at: c.at,
+                n: c.n,
+                refused: number,
+            },
+        },
     }
 }
