@@ -41,7 +41,7 @@ ahead-slot-number : (b : Bool) (i j w v : ℕ) → Ahead (λ r x a. getD (slotAt
 unfolding slot-number-if
 ahead-slot-number b i j w v = ahead-test b (ahead-late (λ v. keeps-done (λ r x h. h)) (λ v. ahead-done)) ahead-done
 
-head-last : (hs : List Head) (i : ℕ) (h : Head) → length hs ≡ i → headAt (hs ++ (h ∷ [])) i ≡ h
+pub head-last : (hs : List Head) (i : ℕ) (h : Head) → length hs ≡ i → headAt (hs ++ (h ∷ [])) i ≡ h
 head-last hs i h e = getD-at hs h [] (head 0 0) i e
 
 -- one head, the i-th, behind those before it
@@ -62,7 +62,7 @@ unfolding ptl-head
 head-longer h i hs = returns-bind _ λ p. returns-bind _ λ t. returns-bind _ λ c. keeps-done (head p t, refl)
 
 -- all heads: those before stay as they were
-heads-longer : (h : Header) (n i : ℕ) (hs : List Head) → Returns (λ b. (l : List Head) × (b ≡ hs ++ l) × (length l ≡ n)) (loop (ptl-head h) n i hs)
+pub heads-longer : (h : Header) (n i : ℕ) (hs : List Head) → Returns (λ b. (l : List Head) × (b ≡ hs ++ l) × (length l ≡ n)) (loop (ptl-head h) n i hs)
 unfolding loop
 heads-longer h zero i hs = keeps-done ([], sym (append-nil hs), refl)
 heads-longer h (suc n) i hs =

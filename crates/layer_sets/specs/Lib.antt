@@ -1,0 +1,3 @@
+pub mod Masks
+pub mod MaskLaws
+pub mod Closed
