@@ -1,0 +1,25 @@
+-- What reading the first fields gives.
+use Prim.Native.Nat.{ℕ, _≤_}
+use mathlib.Core.List.{List}
+use Rattle.vps_definition.specs.Vps as Vps
+use Rattle.read_steps.specs.declared.Cursor.{Cursor}
+use Rattle.read_steps.specs.Meets.{Meets}
+use Rattle.read_layers.specs.declared.Header.{Header}
+
+-- the code's fields as the table's
+abbrev pub headerOf : Header → Vps.Header
+headerOf h =
+    record {
+      id = h .id;
+      layers = h .layers;
+      max-sublayers-minus1 = h .«max_sublayers_minus1»;
+      default-max-tid-flag = h .«default_max_tid_flag»;
+      all-independent-flag = h .«all_independent_flag»;
+    }
+
+-- they are read as the table says, nothing is stored, and they lie in their range behind a refusal too
+pub record HeaderMet (s : List ℕ) (c : Cursor) (h : Header) (c′ : Cursor) : Type 0 where
+  pub meets : (rec : List ℕ) → Meets Vps.header s c (headerOf h) c′ rec rec
+  pub one-layer : 1 ≤ h .layers
+  pub layers-64 : h .layers ≤ 64
+  pub sublayers-7 : h .«max_sublayers_minus1» ≤ 7

@@ -1,0 +1,6 @@
+pub mod Readings
+pub mod Headers
+pub mod Flags
+pub mod Layers
+pub mod Rows
+pub mod Sets
