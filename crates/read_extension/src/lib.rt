@@ -6,6 +6,7 @@ ghost use lib.ListN.{length};
 ghost use lib.Seq.{sets};
 ghost use Rattle.vps_definition.specs.Reading.{bitsAt, dataBits, most-rbsp-bytes};
 ghost use Rattle.read_steps.specs.Fits.{limit};
+use read_steps::LIMIT;
 
 // The bytes of an RBSP that is not too long.
 const MOST_RBSP_BYTES: usize = 65_535;
@@ -34,13 +35,13 @@ pub fn data_bits(bytes: &[u8], at: usize) -> usize
 pub fn store_bits(bytes: &[u8], rec: &mut [u32], n: usize, at: usize, count: usize)
     ensures { λ _. ⌜ (at + count < limit → n + count < limit → now (rec .exit) ≡ sets (now (rec .entry)) n (bitsAt (now (bytes .entry)) at count)) ⌝ }
 {
-    if read_steps::LIMIT <= at {
+    if LIMIT <= at {
         return;
     }
-    if read_steps::LIMIT <= n {
+    if LIMIT <= n {
         return;
     }
-    if read_steps::LIMIT <= count {
+    if LIMIT <= count {
         return;
     }
     let mut j = 0;

@@ -2,9 +2,11 @@
 use Prim.Native.Nat.{ℕ, zero, suc, _+_, _*_, _-_, _≤_, _<_}
 use mathlib.Core.Path.{_≡_, refl, sym, ap, _∙_, subst}
 use mathlib.Core.List.{List, [], _∷_, _++_, append-nil}
+use mathlib.Core.Bool.{Bool, cond}
 use native.Mathlib.Nat.{add-zero, zero-mul, suc-mul}
 use native.Mathlib.Omega.{arith}
-use Rattle.bits.specs.Bits.{bitAt, fieldAt, onesAt}
+use borrow.Author.Tests.{lt-ltb}
+use Rattle.bits.specs.Bits.{bitAt, fieldAt, fieldWidth, onesAt}
 use Rattle.bits.specs.FieldLaws.{field-one, ones-split}
 use Rattle.vps_definition.specs.Syntax.{Syntax, _>>=_, Token, keeping, Outcome, run}
 use Rattle.vps_definition.specs.Syntax.Syntax.{keep, done}
@@ -23,6 +25,10 @@ use Rattle.read_ptl.specs.Silent.{run-silent, fits-silent}
 unfoldable pub fallingAt : List ℕ → (at n w : ℕ) → List ℕ
 fallingAt s at zero w = []
 fallingAt s at (suc n) w = fallingAt s (at + w) n w ++ (fieldAt s at w ∷ [])
+
+-- a field of fewer than 32 bits is read whole
+pub field-whole : (s : List ℕ) {v p q w : ℕ} → w < 32 → p ≡ q → v ≡ fieldAt s p (fieldWidth w) → v ≡ fieldAt s q w
+field-whole s {q = q} {w = w} h e i = i ∙ ap (λ (k : ℕ). fieldAt s k (fieldWidth w)) e ∙ ap (λ (b : Bool). fieldAt s q (cond b w 32)) (lt-ltb w 32 h)
 
 -- ── The table ─────────────────────────────────────────────────────────
 run-falling : (n w : ℕ) (s : List ℕ) (at : ℕ) → run (falling n w) s at ≡ accepted (fallingAt s at n w) [] (at + n * w)

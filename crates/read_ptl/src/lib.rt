@@ -13,13 +13,11 @@ ghost use Rattle.read_ptl.specs.Reversed.{fallingAt};
 ghost use Rattle.read_ptl.specs.Rest.{from-sublayers, from-level};
 ghost use Rattle.read_ptl.specs.Slots.{head-of, headsAt, SlotsMet, Asked, slot-count};
 use read_steps::Cursor;
+use read_steps::LIMIT;
 use read_steps::Took;
 use refusals::PTL_ALIGNMENT;
 use refusals::PTL_MAX_TID;
 use refusals::PTLS_OVER_SETS;
-
-// Places from here on are never reached: the whole table stays below.
-const LIMIT: usize = 0x4000_0000_0000_0000;
 
 // The profile and the tier, where they are present.
 fn read_profile_and_tier(bytes: &[u8], rec: &mut [u32], c: Cursor, present: u32) -> Cursor

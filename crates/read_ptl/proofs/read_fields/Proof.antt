@@ -9,9 +9,6 @@ use Rattle.read_steps.specs.Meets.{Meets}
 use Rattle.read_ptl.specs.Fields.{kept-field, fields-begin, fields-turn, fields-break, Turning}
 use Rattle.read_ptl.proofs.read_fields.Statement.{statement}
 use Rattle.read_ptl.proofs.read_fields.Tie as tie
-use Rattle.read_ptl.proofs.read_fields.Reads as reads
-use Rattle.read_ptl.proofs.read_fields.Lts as lts
-use Rattle.read_steps.proofs.take.Reads as take-reads
 
 abbrev Inv-loop : tie.InvT-loop
 Inv-loop bytes rec₀ count width next₀ i₀ rec next i = Turning (repeat i (kept-field (fieldWidth width))) tt i count bytes next₀ next rec₀ rec

@@ -1,15 +1,10 @@
 -- Each turn keeps the field before those kept so far; all of them, and the place behind them, are the table's.
 use borrow.Author.Needs.{needs}
-use borrow.Author.Tests.{lt-ltb}
 use native.Mathlib.Omega.{arith}
-use Prim.Native.Nat.{ℕ, _+_, _*_, _-_, _<_}
-use mathlib.Core.Path.{refl, ap, _∙_}
-use mathlib.Core.Bool.{Bool, cond}
-use lib.Dec.{ltb}
-use Rattle.bits.specs.Bits.{fieldAt}
+use mathlib.Core.Path.{refl}
 use Rattle.vps_definition.specs.Words.{keeps}
 use Rattle.read_ptl.specs.Fields.{Turning}
-use Rattle.read_ptl.specs.Reversed.{fieldsBehind, behind-begin, behind-turn, meets-reversed, reversed-far}
+use Rattle.read_ptl.specs.Reversed.{field-whole, fieldsBehind, behind-begin, behind-turn, meets-reversed, reversed-far}
 use Rattle.read_ptl.proofs.read_reversed.Statement.{statement}
 use Rattle.read_ptl.proofs.read_reversed.Tie as tie
 
@@ -42,14 +37,12 @@ loop-less c = search needs
 
 loop-again : tie.Need-loop-again Inv-loop μ-loop
 loop-again c =
-    let small : c .before .before .before .before .before .before .before .before .before .before .before .before .before .args .width < 32 = omega (arith, c .before .before .before .before .before .before .before .before .before .before .before .before .before .pre) in
     record {
       below = search needs;
       same = search (needs, c .before .before .before .before .before .before .before .before .loop .inv .same, c .before .before .before .infer);
       met =
           behind-turn _ _ _ (omega arith) (c .before .before .before .before .before .before .before .before .loop .inv .below)
-          (c .before .before .before .before .before .field-at .ensures ∙ ap (λ (p : ℕ). fieldAt (c .before .before .before .before .before .before .before .before .before .before .before .before .before .args .bytes .now) p (cond (ltb (c .before .before .before .before .before .before .before .before .before .before .before .before .before .args .width) 32) (c .before .before .before .before .before .before .before .before .before .before .before .before .before .args .width) 32)) (c .before .before .before .before .before .before .place-behind .ensures)
-          ∙ ap (λ (b : Bool). fieldAt (c .before .before .before .before .before .before .before .before .before .before .before .before .before .args .bytes .now) (c .before .before .before .before .before .before .before .before .before .before .before .before .before .args .c .at + (c .before .before .before .before .before .before .before .before .loop .j - 1) * c .before .before .before .before .before .before .before .before .before .before .before .before .before .args .width) (cond b (c .before .before .before .before .before .before .before .before .before .before .before .before .before .args .width) 32)) (lt-ltb _ _ small))
+          (field-whole _ (omega (arith, c .before .before .before .before .before .before .before .before .before .before .before .before .before .pre)) (c .before .before .before .before .before .before .place-behind .ensures) (c .before .before .before .before .before .field-at .ensures))
           (c .before .before .before .before .before .before .before .before .loop .inv .met) (c .before .before .before .infer .ensures _);
     }
 
