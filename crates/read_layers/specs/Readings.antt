@@ -6,13 +6,11 @@ use mathlib.Core.List.{List}
 use mathlib.Core.Bool.{Bool}
 use Rattle.bits.specs.Bits.{fieldAt}
 use Rattle.bits.specs.FieldLaws.{field-lt}
-use Rattle.vps_definition.specs.Syntax.{Syntax, Token, numbers, Outcome, keeping, run}
-use Rattle.vps_definition.specs.Syntax.Syntax.{late, mark, test, done}
-use Rattle.vps_definition.specs.Syntax.Token.{section}
+use Rattle.vps_definition.specs.Syntax.{Syntax, Token, Outcome, keeping, run}
+use Rattle.vps_definition.specs.Syntax.Syntax.{late, test, done}
 use Rattle.vps_definition.specs.Syntax.Outcome.{accepted, refused}
 use Rattle.vps_definition.specs.Words.{u, u-minus1, general, general-if}
 use Rattle.read_steps.specs.declared.Cursor.{Cursor}
-use Rattle.read_steps.specs.Fits.{Fits}
 use Rattle.read_steps.specs.Meets.{After, Meets}
 
 -- a result that is the same wherever the reading is accepted
@@ -55,12 +53,3 @@ pub meets-minus1-within : (w : ℕ) {most : ℕ} {s : List ℕ} {c : Cursor} {v 
 unfolding u-minus1 run keeping
 meets-minus1-within w {most} {s = s} {c = c} {v = v} f h M =
     meets-other (λ t next e. let k : fieldAt s (c .at) w + 1 ≡ v = cc e in h (omega (arith, k, f, field-lt s (c .at) w))) M
-
--- a section that starts stores nothing
-pub meets-mark : {A : Type 0} {m : Syntax A} {s : List ℕ} {c : Cursor} {a : A} {c′ : Cursor} {rec rec′ : List ℕ} → Meets m s c a c′ rec rec′ → Meets (mark m) s c a c′ rec rec′
-unfolding run keeping numbers Fits
-meets-mark {A} {m} {s} {c} {a} {c′} {rec} {rec′} M = record { goes = λ e F. go (run m s (c .at)) (M .goes e F); stays = M .stays }
-  where
-    go : (x : Outcome A) → After x c a c′ rec rec′ → After (keeping section x) c a c′ rec rec′
-    go (accepted b t next) W = record { result = W .result; place = W .place; cursor = W .cursor; open′ = W .open′; stored = W .stored }
-    go (refused k t) S = S

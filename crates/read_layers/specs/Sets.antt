@@ -2,7 +2,7 @@
 use Prim.Native.Nat.{ℕ, zero, suc, _-_, _≤_}
 use native.Mathlib.Omega.{arith}
 use mathlib.Core.Path.{_≡_, refl, sym, ap, _∙_}
-use mathlib.Core.List.{List, []}
+use mathlib.Core.List.{List, [], _∷_}
 use lib.Dec.{ltb}
 use lib.ListN.{length, getD}
 use Rattle.vps_definition.specs.Syntax.{Syntax, _>>=_}
@@ -16,6 +16,7 @@ use Rattle.layer_sets.specs.Closed.{Closed, row-many}
 use Rattle.read_steps.specs.declared.Cursor.{Cursor}
 use Rattle.read_steps.specs.Meets.{Meets}
 use Rattle.read_steps.specs.Laws.{meets-then, meets-done}
+use Rattle.read_steps.specs.Marked.{Marked}
 use Rattle.read_layers.specs.Flags.{flagged-short}
 use Rattle.read_layers.specs.Layers.{Below, refers-below}
 use Rattle.read_layers.specs.Rows.{RowsMet}
@@ -38,10 +39,10 @@ pub record SetsMet (m : Syntax Sets) (n : ℕ) (refs : List (List ℕ)) (s : Lis
   pub meets : Meets m s c sets c′ rec rec′
   pub counted : Counted n refs sets total multi
 
--- the whole section, with its two fields
-pub record SectionMet (h : Vps.Header) (refs : List (List ℕ)) (s : List ℕ) (c : Cursor) (each-layer-flag mode-idc total multi : ℕ) (c′ : Cursor) (rec rec′ : List ℕ) : Type 0 where
+-- the whole section, with its two fields, and where it starts in the record
+pub record SectionMet (h : Vps.Header) (refs : List (List ℕ)) (s : List ℕ) (c : Cursor) (each-layer-flag mode-idc total multi start : ℕ) (c′ : Cursor) (rec rec′ : List ℕ) : Type 0 where
   pub sets : Sets
-  pub meets : Meets (Vps.sets-section h) s c (record { each-layer-flag = each-layer-flag; mode-idc = mode-idc; sets = sets }) c′ rec rec′
+  pub marked : Marked (Vps.sets-section h) s c (record { each-layer-flag = each-layer-flag; mode-idc = mode-idc; sets = sets }) c′ rec rec′ (start ∷ [])
   pub counted : Counted (h .layers) refs sets total multi
 
 -- ── T and M by mode ───────────────────────────────────────────────────

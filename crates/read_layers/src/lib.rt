@@ -404,18 +404,19 @@ fn single(layers: u32) -> u32
     0
 }
 
-// The output layer sets: T of them in all, M with more than one layer.
+// The output layer sets: T of them in all, M with more than one layer; and where they start in the record.
 pub struct SetsRead {
     pub each_layer_flag: u32,
     pub mode_idc: u32,
     pub total: u32,
     pub multi: u32,
+    pub start: usize,
     pub next: Cursor,
 }
 
 // The output layer sets, by the closed masks of the layers.
 pub fn read_sets(bytes: &[u8], rec: &mut [u32], closed: &[u64], c: Cursor, h: Header) -> SetsRead
-    ensures { λ r. ⌜ ((refs : List (List ℕ)) → Known refs (now (closed .entry)) (h .layers) → SectionMet (headerOf h) refs (now (bytes .entry)) c (r .«each_layer_flag») (r .«mode_idc») (r .total) (r .multi) (r .next) (now (rec .entry)) (now (rec .exit))) ⌝ }
+    ensures { λ r. ⌜ ((refs : List (List ℕ)) → Known refs (now (closed .entry)) (h .layers) → SectionMet (headerOf h) refs (now (bytes .entry)) c (r .«each_layer_flag») (r .«mode_idc») (r .total) (r .multi) (r .start) (r .next) (now (rec .entry)) (now (rec .exit))) ⌝ }
 {
     let each_coded = both(1 < h.layers, h.all_independent_flag == 1);
     let each = read_steps::take_late_if(bytes, c, each_coded, 1, single(h.layers));
@@ -429,6 +430,7 @@ pub fn read_sets(bytes: &[u8], rec: &mut [u32], closed: &[u64], c: Cursor, h: He
         mode_idc: mode.v,
         total: rows.total,
         multi: rows.multi,
+        start: held.n,
         next,
     }
 }

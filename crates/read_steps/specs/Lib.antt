@@ -1,4 +1,5 @@
 pub mod Fits
 pub mod Meets
 pub mod Laws
+pub mod Turns
 pub mod Marked

@@ -25,7 +25,8 @@ pub record Marked {A : Type 0} (m : Syntax A) (s : List ℕ) (c : Cursor) (a : A
 pub marked-plain : {A : Type 0} {m : Syntax A} {s : List ℕ} {c : Cursor} {a : A} {c′ : Cursor} {rec rec′ : List ℕ} → Plain m → Meets m s c a c′ rec rec′ → Marked m s c a c′ rec rec′ []
 marked-plain {s = s} {c = c} P M = record { meets = M; marks = λ {b} {t} o F e. starts-none (c .n) t (P .plain .holds s (c .at) e) }
 
-meets-mark : {A : Type 0} {m : Syntax A} {s : List ℕ} {c : Cursor} {a : A} {c′ : Cursor} {rec rec′ : List ℕ} → Meets m s c a c′ rec rec′ → Meets (mark m) s c a c′ rec rec′
+-- a section that starts stores nothing
+pub meets-mark : {A : Type 0} {m : Syntax A} {s : List ℕ} {c : Cursor} {a : A} {c′ : Cursor} {rec rec′ : List ℕ} → Meets m s c a c′ rec rec′ → Meets (mark m) s c a c′ rec rec′
 unfolding run Fits keeping numbers
 meets-mark {A} {m} {s} {c} {a} {c′} {rec} {rec′} M = record { goes = λ o F. go (run m s (c .at)) (M .goes o F); stays = M .stays }
   where

@@ -1,2 +1,1 @@
 pub mod Hrd
-pub mod Turns

@@ -19,14 +19,14 @@ pub record Plain {A : Type 0} (m : Syntax A) : Type 0 where
   pub plain : Keeps (λ a t. marks t ≡ 0) m
 
 -- ── The steps of a table ──────────────────────────────────────────────
-plain-done : {A : Type 0} {a : A} → Plain (done a)
+pub plain-done : {A : Type 0} {a : A} → Plain (done a)
 unfolding marks
 plain-done = record { plain = keeps-done refl }
 
-plain-refuse : {A : Type 0} {n : ℕ} → Plain {A = A} (refuse n)
+pub plain-refuse : {A : Type 0} {n : ℕ} → Plain {A = A} (refuse n)
 plain-refuse = record { plain = keeps-refuse }
 
-plain-field : {A : Type 0} {w plus : ℕ} {k : ℕ → Syntax A} → ((v : ℕ) → Plain (k v)) → Plain (field w plus k)
+pub plain-field : {A : Type 0} {w plus : ℕ} {k : ℕ → Syntax A} → ((v : ℕ) → Plain (k v)) → Plain (field w plus k)
 unfolding marks
 plain-field K = record { plain = keeps-field (λ v l. K _ .plain) }
 
@@ -34,17 +34,17 @@ plain-code : {A : Type 0} {plus : ℕ} {k : ℕ → Syntax A} → ((v : ℕ) →
 unfolding marks
 plain-code K = record { plain = keeps-code (λ v. K _ .plain) }
 
-plain-late : {A : Type 0} {w : ℕ} {find : List ℕ → List ℕ → ℕ} {k : ℕ → Syntax A} → ((v : ℕ) → Plain (k v)) → Plain (late w find k)
+pub plain-late : {A : Type 0} {w : ℕ} {find : List ℕ → List ℕ → ℕ} {k : ℕ → Syntax A} → ((v : ℕ) → Plain (k v)) → Plain (late w find k)
 plain-late K = record { plain = keeps-late (λ v l. K v .plain) }
 
-plain-keep : {A : Type 0} {v : ℕ} {m : Syntax A} → Plain m → Plain (keep v m)
+pub plain-keep : {A : Type 0} {v : ℕ} {m : Syntax A} → Plain m → Plain (keep v m)
 unfolding marks
 plain-keep M = record { plain = keeps-keep (M .plain) }
 
 plain-align : {A : Type 0} {n : ℕ} {m : Syntax A} → Plain m → Plain (align n m)
 plain-align {n = n} M = record { plain = keeps-align n (M .plain) }
 
-plain-test : {A : Type 0} {b : Bool} {m n : Syntax A} → Plain m → Plain n → Plain (test b m n)
+pub plain-test : {A : Type 0} {b : Bool} {m n : Syntax A} → Plain m → Plain n → Plain (test b m n)
 plain-test {b = b} M N = record { plain = keeps-test b (λ e. M .plain) (λ e. N .plain) }
 
 pub plain-bind : {A B : Type 0} {m : Syntax A} {f : A → Syntax B} → Plain m → ((a : A) → Plain (f a)) → Plain (m >>= f)
@@ -65,6 +65,22 @@ plain-keeps [] = plain-done
 plain-keeps (v ∷ l) = plain-keep (plain-keeps l)
 
 ruleset steps = (plain-bind, plain-field, plain-code, plain-late, plain-keep, plain-align, plain-test, plain-loop, plain-repeat, plain-keeps, plain-done, plain-refuse)
+
+pub plain-u : (w : ℕ) → Plain (u w)
+unfolding u
+plain-u w = search steps
+
+pub plain-check : (b : Bool) (n : ℕ) → Plain (check b n)
+unfolding check
+plain-check b n = search steps
+
+pub plain-general : (i w : ℕ) → Plain (general i w)
+unfolding general
+plain-general i w = search steps
+
+pub plain-general-if : (b : Bool) (i w v : ℕ) → Plain (general-if b i w v)
+unfolding general-if general
+plain-general-if b i w v = search steps
 
 -- ── The tables ────────────────────────────────────────────────────────
 plain-direct-reference : (present top j : ℕ) (flags : List ℕ) → Plain (direct-reference present top j flags)

@@ -2,8 +2,10 @@
 use native.Mathlib.Omega.{arith}
 use Rattle.vps_definition.specs.Words.{general-if}
 use Rattle.vps_definition.specs.Vps.{sets-section}
-use Rattle.read_steps.specs.Laws.{meets-as, meets-then, meets-done}
-use Rattle.read_layers.specs.Readings.{meets-general-if, meets-mark}
+use Rattle.vps_laws.specs.Plain.{plain-done, plain-test, plain-check, plain-general-if, plain-rows-section, plain-no-rows}
+use Rattle.read_steps.specs.Laws.{meets-as, meets-done}
+use Rattle.read_steps.specs.Marked.{marked-plain, marked-mark, marked-then}
+use Rattle.read_layers.specs.Readings.{meets-general-if}
 use borrow.Author.Needs.{needs}
 use Rattle.read_layers.proofs.read_sets.Statement.{statement}
 use Rattle.read_layers.proofs.read_sets.Tie as tie
@@ -38,12 +40,12 @@ returns c refs K =
     let S = c .before .before .before .read-set-rows .ensures refs K in
     record {
       sets = S .sets;
-      meets =
-          meets-then _ _ (meets-as (λ j. general-if (c .before .before .before .before .before .before .before .before .before .before .before .before .before .both .ensures j) 5 1 (c .before .before .before .before .before .before .before .before .before .before .before .before .single .ensures j)) (meets-general-if _ 5 1 _ _ (c .before .before .before .before .before .before .before .before .before .before .before .take-late-if .ensures)))
-          (meets-then _ _ (meets-as (λ j. general-if (c .before .before .before .before .before .before .before .before .both2 .ensures j) 6 2 2) (meets-general-if _ 6 2 2 _ (c .before .before .before .before .before .before .before .take-late-if2 .ensures)))
-          (meets-then _ _ (c .before .before .before .before .before .hold .ensures _ _ (λ z. absurd (omega (arith, z))))
-          (meets-then _ _ (meets-mark (S .meets))
-          meets-done)));
+      marked =
+          marked-then _ _ (marked-plain (plain-general-if _ 5 1 _) (meets-as (λ j. general-if (c .before .before .before .before .before .before .before .before .before .before .before .before .before .both .ensures j) 5 1 (c .before .before .before .before .before .before .before .before .before .before .before .before .single .ensures j)) (meets-general-if _ 5 1 _ _ (c .before .before .before .before .before .before .before .before .before .before .before .take-late-if .ensures))))
+          (marked-then _ _ (marked-plain (plain-general-if _ 6 2 2) (meets-as (λ j. general-if (c .before .before .before .before .before .before .before .before .both2 .ensures j) 6 2 2) (meets-general-if _ 6 2 2 _ (c .before .before .before .before .before .before .before .take-late-if2 .ensures))))
+          (marked-then _ _ (marked-plain (plain-check _ _) (c .before .before .before .before .before .hold .ensures _ _ (λ z. absurd (omega (arith, z)))))
+          (marked-then _ _ (marked-mark (marked-plain (plain-test (plain-test (plain-rows-section _) (plain-no-rows _)) (plain-no-rows _)) (S .meets)))
+          (marked-plain plain-done meets-done))));
       counted = S .counted;
     }
 

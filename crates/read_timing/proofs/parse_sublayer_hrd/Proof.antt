@@ -2,7 +2,7 @@
 use Prim.Native.Nat.{_-_}
 use Rattle.vps_definition.specs.Words.{repeat}
 use Rattle.vps_definition.specs.TimingHrd.{schedule, sublayer-hrd}
-use Rattle.read_timing.specs.Turns.{Turned, turned-none, turned-more, turned-stop, turned-all}
+use Rattle.read_steps.specs.Turns.{Turned, turned-none, turned-more, turned-stop, turned-all}
 use borrow.Author.Needs.{needs}
 use Rattle.read_timing.proofs.parse_sublayer_hrd.Statement.{statement}
 use Rattle.read_timing.proofs.parse_sublayer_hrd.Tie as tie

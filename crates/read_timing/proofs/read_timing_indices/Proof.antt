@@ -3,7 +3,7 @@ use Prim.Native.Nat.{_-_}
 use native.Mathlib.Omega.{arith}
 use Rattle.refusals.specs.Number.{timing-index}
 use Rattle.vps_definition.specs.DpbParameters.{index}
-use Rattle.read_timing.specs.Turns.{Turned, turned-none, turned-more, turned-stop, turned-all}
+use Rattle.read_steps.specs.Turns.{Turned, turned-none, turned-more, turned-stop, turned-all}
 use borrow.Author.Needs.{needs}
 use Rattle.read_timing.proofs.read_timing_indices.Statement.{statement}
 use Rattle.read_timing.proofs.read_timing_indices.Tie as tie
