@@ -1,6 +1,7 @@
 // Reads what DPB slots, timing entries and sets share: indices into a table of entries, and an entry's max tid.
 ghost use mathlib.Core.Path.{_≡_};
 ghost use Prim.Native.Nat.{ℕ};
+ghost use Rattle.vps_definition.specs.Words.{loop};
 ghost use Rattle.vps_definition.specs.DpbParameters.{sublayers, index-coded, index-inferred, index};
 ghost use Rattle.read_steps.specs.Meets.{Meets};
 ghost use Rattle.read_entries.specs.MaxTid.{max-tid};
@@ -44,6 +45,29 @@ pub fn read_index(
         inferred_index(size, i),
     );
     read_steps::hold(v.next, v.v < size, number)
+}
+
+// All of them, up to a refusal.
+pub fn read_indices(
+    bytes: &[u8],
+    rec: &mut [u32],
+    c: Cursor,
+    size: u32,
+    count: u32,
+    number: u32,
+) -> Cursor
+    ensures { λ r. ⌜ ((number ≡ 0 → ⊥) → Meets (loop {A = Unit {0}} (λ i x. index size count number i) count 0 tt) (now (bytes .entry)) c tt r (now (rec .entry)) (now (rec .exit))) ⌝ }
+{
+    let mut at = c;
+    let mut i: u32 = 0;
+    while i < count {
+        at = read_index(bytes, rec, at, size, count, number, i);
+        i += 1;
+        if at.refused != 0 {
+            return at;
+        }
+    }
+    at
 }
 
 // An entry's max tid; refused with a number, not 0, above the sublayers.

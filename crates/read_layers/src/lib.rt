@@ -80,7 +80,7 @@ pub struct HeaderRead {
     pub next: Cursor,
 }
 
-// The first fields; there are 1 to 64 layers behind a refusal too.
+// The first fields; behind a refusal too there are 1 to 64 layers, and 7 sublayers at the most.
 pub fn read_header(bytes: &[u8], c: Cursor) -> HeaderRead
     ensures { λ r. ⌜ HeaderMet (now (bytes .entry)) c (r .header) (r .next) ⌝ }
 {
@@ -91,12 +91,13 @@ pub fn read_header(bytes: &[u8], c: Cursor) -> HeaderRead
     let several = both(0 < layers.v, 0 < sublayers.v);
     let default_flag = read_steps::take_late_if(bytes, held, several, 1, 1);
     let independent = read_steps::take_late_if(bytes, default_flag.next, 0 < layers.v, 1, 1);
+    let top = capped(sublayers.v, 6);
     let next = independent.next;
     HeaderRead {
         header: Header {
             id: id.v,
             layers: layers.v + 1,
-            max_sublayers_minus1: sublayers.v,
+            max_sublayers_minus1: top,
             default_max_tid_flag: default_flag.v,
             all_independent_flag: independent.v,
         },

@@ -2,9 +2,10 @@
 use Prim.Native.Nat.{ℕ, _+_}
 use mathlib.Core.Path.{_≡_, refl, sym, ap, _∙_, subst}
 use mathlib.Core.List.{List, [], _∷_, _++_}
+use mathlib.Core.Bool.{Bool, true, false}
 use lib.ListN.{length}
 use Rattle.vps_definition.specs.Syntax.{Syntax, _>>=_, Token, numbers, starts, keeping, Outcome, run}
-use Rattle.vps_definition.specs.Syntax.Syntax.{mark}
+use Rattle.vps_definition.specs.Syntax.Syntax.{mark, test}
 use Rattle.vps_definition.specs.Syntax.Token.{section}
 use Rattle.vps_definition.specs.Syntax.Outcome.{accepted, refused}
 use Rattle.vps_laws.specs.Inversion.{keeping-accepted}
@@ -14,7 +15,7 @@ use Rattle.vps_laws.specs.Plain.{Plain}
 use Rattle.read_steps.specs.declared.Cursor.{Cursor}
 use Rattle.read_steps.specs.Fits.{Fits, fits-first, fits-second}
 use Rattle.read_steps.specs.Meets.{Went, Stopped, After, Meets}
-use Rattle.read_steps.specs.Laws.{meets-then}
+use Rattle.read_steps.specs.Laws.{meets-then, meets-yes, meets-no}
 
 -- the code meets the table, and where that is accepted its sections start at these numbers
 pub record Marked {A : Type 0} (m : Syntax A) (s : List ℕ) (c : Cursor) (a : A) (c′ : Cursor) (rec rec′ l : List ℕ) : Type 0 where
@@ -62,3 +63,16 @@ marked-then {A} {B} {s} {c} {a} {c₁} {rec} {rec₁} {b} {c₂} {rec₂} {l₁}
         ap (starts (c .n)) (B .both) ∙ starts-append (c .n) (B .before) (B .behind)
         ∙ (λ i. M .marks o F₁ (B .first) i ++ starts (sym (W .cursor) i) (B .behind))
         ∙ ap (λ (x : List ℕ). l₁ ++ x) (N .marks (W .open′) F₂ e₂)
+
+-- the same table
+pub marked-as : {A : Type 0} {m m′ : Syntax A} {s : List ℕ} {c : Cursor} {a : A} {c′ : Cursor} {rec rec′ l : List ℕ} → m ≡ m′ → Marked m s c a c′ rec rec′ l → Marked m′ s c a c′ rec rec′ l
+marked-as {s = s} {c = c} {a = a} {c′ = c′} {rec = rec} {rec′ = rec′} {l = l} e M = subst (λ (x : Syntax _). Marked x s c a c′ rec rec′ l) e M
+
+-- a condition that is known
+pub marked-yes : {A : Type 0} {b : Bool} {m n : Syntax A} {s : List ℕ} {c : Cursor} {a : A} {c′ : Cursor} {rec rec′ l : List ℕ} → b ≡ true → Marked m s c a c′ rec rec′ l → Marked (test b m n) s c a c′ rec rec′ l
+unfolding run Fits
+marked-yes {m = m} {n = n} e M = marked-as (λ i. test (sym e i) m n) (record { meets = meets-yes refl (M .meets); marks = λ o F r. M .marks o F r })
+
+pub marked-no : {A : Type 0} {b : Bool} {m n : Syntax A} {s : List ℕ} {c : Cursor} {a : A} {c′ : Cursor} {rec rec′ l : List ℕ} → b ≡ false → Marked n s c a c′ rec rec′ l → Marked (test b m n) s c a c′ rec rec′ l
+unfolding run Fits
+marked-no {m = m} {n = n} e M = marked-as (λ i. test (sym e i) m n) (record { meets = meets-no refl (M .meets); marks = λ o F r. M .marks o F r })

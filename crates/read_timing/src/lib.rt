@@ -243,22 +243,6 @@ fn read_timing_entries(
     at
 }
 
-// The timing index of each multi-layer set, up to a refusal.
-fn read_timing_indices(bytes: &[u8], rec: &mut [u32], c: Cursor, entries: u32, multi: u32) -> Cursor
-    ensures { λ r. ⌜ Meets (loop {A = Unit {0}} (λ i x. index entries multi timing-index i) multi 0 tt) (now (bytes .entry)) c tt r (now (rec .entry)) (now (rec .exit)) ⌝ }
-{
-    let mut at = c;
-    let mut i: u32 = 0;
-    while i < multi {
-        at = read_entries::read_index(bytes, rec, at, entries, multi, TIMING_INDEX, i);
-        i += 1;
-        if at.refused != 0 {
-            return at;
-        }
-    }
-    at
-}
-
 // The timing section of the VPS, behind its flag.
 pub fn read_timing_section(
     bytes: &[u8],
@@ -284,5 +268,5 @@ pub fn read_timing_section(
         flag.v,
         general.hrd,
     );
-    read_timing_indices(bytes, rec, listed, entries.v, multi)
+    read_entries::read_indices(bytes, rec, listed, entries.v, multi, TIMING_INDEX)
 }

@@ -416,7 +416,7 @@ costs-buffer-sections h each multi k l =
     (costs-mark refl (costs-keep refl (costs-keep refl (costs-mark refl (costs-keep refl costs-done)))))
 
 -- ── What the counts are at most ───────────────────────────────────────
-header-most : Returns (λ h. (h .layers ≤ 64) × (h .max-sublayers-minus1 ≤ 6)) header
+pub header-most : Returns (λ h. (h .layers ≤ 64) × (h .max-sublayers-minus1 ≤ 6)) header
 unfolding header
 header-most =
     returns-bind _ λ id.

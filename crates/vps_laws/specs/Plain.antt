@@ -11,7 +11,7 @@ use Rattle.vps_definition.specs.ProfileTierLevel.{falling, reversed, ahead, con
 use Rattle.vps_definition.specs.DpbParameters.{dpb-sublayer, per-sublayer, index, ols-dpb, dpb-section}
 use Rattle.vps_definition.specs.TimingHrd.{Hrd, general-timing-hrd, du-values, schedule, sublayer-hrd, timing-sublayer, timing-section}
 use Rattle.vps_definition.specs.OutputLayerSets.{Sets}
-use Rattle.vps_definition.specs.Vps.{Header, direct-reference, dependent-layer, independent-layer, layer, layers-section, output-flag, row, rows-section, no-rows, slot-number-if, ptl-head, ptl-slot, ptl-section, ols-section}
+use Rattle.vps_definition.specs.Vps.{Header, header, direct-reference, dependent-layer, independent-layer, layer, layers-section, output-flag, row, rows-section, no-rows, slot-number-if, ptl-head, ptl-slot, ptl-section, ols-section}
 use Rattle.vps_laws.specs.Keeps.{Keeps, keeps-so, keeps-bind, keeps-field, keeps-code, keeps-late, keeps-keep, keeps-align, keeps-test, keeps-refuse, keeps-done}
 use Rattle.vps_laws.specs.Marks.{marks, marks-append}
 
@@ -70,6 +70,14 @@ pub plain-u : (w : ℕ) → Plain (u w)
 unfolding u
 plain-u w = search steps
 
+pub plain-inferred : (v : ℕ) → Plain (inferred v)
+unfolding inferred
+plain-inferred v = search steps
+
+pub plain-when : (flag : ℕ) {m : Syntax (Unit {0})} → Plain m → Plain (when flag m)
+unfolding when nothing
+plain-when flag M = search steps
+
 pub plain-check : (b : Bool) (n : ℕ) → Plain (check b n)
 unfolding check
 plain-check b n = search steps
@@ -83,6 +91,10 @@ unfolding general-if general
 plain-general-if b i w v = search steps
 
 -- ── The tables ────────────────────────────────────────────────────────
+pub plain-header : Plain header
+unfolding header
+plain-header = search (steps, plain-general, plain-check, plain-general-if) depth 40
+
 plain-direct-reference : (present top j : ℕ) (flags : List ℕ) → Plain (direct-reference present top j flags)
 unfolding direct-reference u u-if inferred
 plain-direct-reference present top j flags = search steps depth 30

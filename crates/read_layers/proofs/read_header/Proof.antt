@@ -5,7 +5,9 @@ use mathlib.Core.Path.{refl}
 use Rattle.vps_definition.specs.Words.{general-if}
 use Rattle.vps_definition.specs.Vps.{header}
 use Rattle.read_steps.specs.Laws.{meets-as, meets-then, meets-done}
-use Rattle.read_layers.specs.Readings.{meets-general, meets-general-if}
+use Rattle.vps_laws.specs.Bound.{header-most}
+use Rattle.read_layers.specs.Headers.{same-sublayers}
+use Rattle.read_layers.specs.Readings.{meets-general, meets-general-if, meets-other}
 use Rattle.read_layers.proofs.read_header.Statement.{statement}
 use Rattle.read_layers.proofs.read_header.Tie as tie
 
@@ -30,8 +32,11 @@ take-late-if-requires c κs = search needs
 take-late-if-requires-2 : tie.Need-take-late-if-requires-2
 take-late-if-requires-2 c κs = search needs
 
-add-t13 : tie.Need-add-t13
-add-t13 c = omega (arith, c .before .before .before .before .before .before .before .before .before .before .before .take-late-within .ensures .0)
+capped-requires : tie.Need-capped-requires
+capped-requires c κs = search needs
+
+add-t14 : tie.Need-add-t14
+add-t14 c = omega (arith, c .before .before .before .before .before .before .before .before .before .before .before .before .take-late-within .ensures .0)
 
 returns : tie.Need-returns
 unfolding header
@@ -39,16 +44,17 @@ returns c =
     record {
       meets =
           λ rec.
-          meets-then _ _ (meets-general 1 4 rec (c .before .before .before .before .before .before .before .before .before .before .before .before .take-late .ensures))
-          (meets-then _ _ (c .before .before .before .before .before .before .before .before .before .before .before .take-late-within .ensures .1 _ rec refl)
-          (meets-then _ _ (meets-general 2 3 rec (λ find r. c .before .before .before .before .before .before .before .before .before .before .take-late-within2 .ensures .1 find r refl))
-          (meets-then _ _ (c .before .before .before .before .before .before .before .before .hold .ensures _ rec (λ e. absurd (omega (arith, e))))
-          (meets-then _ _ (meets-as (λ j. general-if (c .before .before .before .before .before .both .ensures j) 3 1 1) (meets-general-if _ 3 1 1 rec (c .before .before .before .before .take-late-if .ensures)))
-          (meets-then _ _ (meets-general-if _ 4 1 1 rec (c .before .before .take-late-if2 .ensures))
-          meets-done)))));
+          meets-other (λ t next e. same-sublayers _ (c .before .before .capped .ensures .1 (header-most .holds _ _ e .1)))
+          (meets-then _ _ (meets-general 1 4 rec (c .before .before .before .before .before .before .before .before .before .before .before .before .before .take-late .ensures))
+          (meets-then _ _ (c .before .before .before .before .before .before .before .before .before .before .before .before .take-late-within .ensures .1 _ rec refl)
+          (meets-then _ _ (meets-general 2 3 rec (λ find r. c .before .before .before .before .before .before .before .before .before .before .before .take-late-within2 .ensures .1 find r refl))
+          (meets-then _ _ (c .before .before .before .before .before .before .before .before .before .hold .ensures _ rec (λ e. absurd (omega (arith, e))))
+          (meets-then _ _ (meets-as (λ j. general-if (c .before .before .before .before .before .before .both .ensures j) 3 1 1) (meets-general-if _ 3 1 1 rec (c .before .before .before .before .before .take-late-if .ensures)))
+          (meets-then _ _ (meets-general-if _ 4 1 1 rec (c .before .before .before .take-late-if2 .ensures))
+          meets-done))))));
       one-layer = omega arith;
-      layers-64 = omega (arith, c .before .before .before .before .before .before .before .before .before .before .before .take-late-within .ensures .0);
-      sublayers-7 = c .before .before .before .before .before .before .before .before .before .before .take-late-within2 .ensures .0;
+      layers-64 = omega (arith, c .before .before .before .before .before .before .before .before .before .before .before .before .take-late-within .ensures .0);
+      sublayers-7 = c .before .before .capped .ensures .0;
     }
 
 pub read-header-spec : {M : Type 1} → statement M
@@ -62,5 +68,6 @@ read-header-spec =
     both-requires
     take-late-if-requires
     take-late-if-requires-2
-    add-t13
+    capped-requires
+    add-t14
     returns)

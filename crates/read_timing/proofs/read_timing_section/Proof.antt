@@ -21,11 +21,11 @@ hold-requires c κs = search needs
 read-timing-entries-requires : tie.Need-read-timing-entries-requires
 read-timing-entries-requires c κs = search needs
 
-read-timing-indices-requires : tie.Need-read-timing-indices-requires
-read-timing-indices-requires c κs = search needs
+read-indices-requires : tie.Need-read-indices-requires
+read-indices-requires c κs = search needs
 
 same-length : tie.Need-same-length
-same-length c = search (needs, c .before .before .before .before .before .before .before .before .before .before .before .before .before .before .before .before .before .before .before .before .parse-general-timing-hrd, c .before .before .before .before .before .before .before .before .before .before .before .before .before .before .before .before .take-if, c .before .before .before .before .before .before .before .before .before .before .before .before .take-code-minus1, c .before .before .before .before .before .before .read-timing-entries, c .before .before .read-timing-indices)
+same-length c = search (needs, c .before .before .before .before .before .before .before .before .before .before .before .before .before .before .before .before .before .before .before .before .parse-general-timing-hrd, c .before .before .before .before .before .before .before .before .before .before .before .before .before .before .before .before .take-if, c .before .before .before .before .before .before .before .before .before .before .before .before .take-code-minus1, c .before .before .before .before .before .before .read-timing-entries, c .before .before .read-indices)
 
 returns : tie.Need-returns
 unfolding timing-section
@@ -35,7 +35,7 @@ returns c =
     (meets-then _ _ (c .before .before .before .before .before .before .before .before .before .before .before .before .take-code-minus1 .ensures)
     (meets-then _ _ (c .before .before .before .before .before .before .before .before .hold .ensures _ _ (λ e. absurd (omega (arith, e))))
     (meets-then _ _ (c .before .before .before .before .before .before .read-timing-entries .ensures)
-    (c .before .before .read-timing-indices .ensures)))))
+    (c .before .before .read-indices .ensures (λ e. absurd (omega (arith, e))))))))
 
 pub read-timing-section-spec : {M : Type 1} → statement M
 read-timing-section-spec =
@@ -46,6 +46,6 @@ read-timing-section-spec =
     take-code-minus1-requires
     hold-requires
     read-timing-entries-requires
-    read-timing-indices-requires
+    read-indices-requires
     same-length
     returns)
