@@ -466,14 +466,14 @@ costs-vps =
     costs-none (costs-general 8 1) λ f. costs-mark refl costs-done
 
 -- each token is a number of the record: a number is itself, and a section is its start in the trailer
-tokens-length : (at : ℕ) (t : List Token) → length (numbers t) + length (starts at t) ≡ length t
+pub tokens-length : (at : ℕ) (t : List Token) → length (numbers t) + length (starts at t) ≡ length t
 unfolding numbers starts
 tokens-length at [] = refl
 tokens-length at (number v ∷ t) = omega (arith, tokens-length (at + 1) t)
 tokens-length at (section ∷ t) = omega (arith, tokens-length at t)
 
 -- beside them the General section, the extension with its count, and the total length
-record-numbers : (general : List ℕ) (t : List Token) (e : List ℕ) → length (recordOf general t e) ≡ length general + length t + length e + 2
+pub record-numbers : (general : List ℕ) (t : List Token) (e : List ℕ) → length (recordOf general t e) ≡ length general + length t + length e + 2
 record-numbers general t e = ap length (record-parts general t e) ∙ simp length-append (omega (arith, tokens-length 9 t))
 
 -- the numbers that take no bit of their own are at most so many: the table's, nine of General, the extension's count and the

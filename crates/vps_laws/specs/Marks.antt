@@ -1,5 +1,5 @@
 -- Where a record's sections start: each start in the trailer is the place of a mark of the table.
-use Prim.Native.Nat.{ℕ, zero, suc, _+_, _-_, _<_}
+use Prim.Native.Nat.{ℕ, zero, suc, _+_, _-_, _≤_, _<_}
 use mathlib.Core.Path.{_≡_, refl, sym, ap, _∙_, subst}
 use mathlib.Core.List.{List, [], _∷_, _++_, append-assoc}
 use mathlib.Core.Bool.{Bool, true, false}
@@ -46,6 +46,14 @@ unfolding starts marks
 starts-none at [] e = refl
 starts-none at (number v ∷ t) e = starts-none (at + 1) t e
 starts-none at (section ∷ t) e = absurd (omega (arith, e))
+
+-- a section starts inside
+pub starts-most : (n : ℕ) (t : List Token) (k : ℕ) → getD (starts n t) k 0 ≤ n + length (numbers t)
+unfolding starts numbers
+starts-most n [] k = omega arith
+starts-most n (number v ∷ t) k = omega (arith, starts-most (n + 1) t k)
+starts-most n (section ∷ t) zero = omega arith
+starts-most n (section ∷ t) (suc k) = starts-most n t k
 
 -- the start behind k marks
 starts-at : (at : ℕ) (a b : List Token) → getD (starts at (a ++ (section ∷ b))) (marks a) 0 ≡ at + length (numbers a)

@@ -1,6 +1,6 @@
 -- A record that is stored part by part from the first number on is the whole record.
-use Prim.Native.Nat.{ℕ, _+_, _≤_}
-use mathlib.Core.Path.{_≡_, sym, ap, _∙_}
+use Prim.Native.Nat.{ℕ, suc, _+_, _≤_}
+use mathlib.Core.Path.{_≡_, refl, sym, ap, _∙_}
 use mathlib.Core.List.{List, [], _∷_, _++_, append-assoc}
 use native.Mathlib.Nat.{zero-add}
 use native.Mathlib.Omega.{arith}
@@ -53,3 +53,16 @@ module _ (lent g : List ℕ) (t : List Token) (e : List ℕ) (nine : length g �
       ∙ ap (λ (r : List ℕ). set r totalAt (startsFrom + 8)) (stored-behind lent x₃ (starts 9 t) l₃)
       ∙ stored-behind lent x₄ ((startsFrom + 8) ∷ []) l₄
       ∙ ap (sets lent 0) (λ i. (q i ++ starts 9 t) ++ (v i ∷ []))
+
+-- ── The same, as the code stores them ─────────────────────────────────
+pub seven-stored : {l₁ l₂ l₃ l₄ l₅ l₆ l₇ : List ℕ} (l : List ℕ) (n a b c d e f g : ℕ)
+    → l₁ ≡ set l n a → l₂ ≡ set l₁ (n + 1) b → l₃ ≡ set l₂ (n + 2) c → l₄ ≡ set l₃ (n + 3) d → l₅ ≡ set l₄ (n + 4) e → l₆ ≡ set l₅ (n + 5) f → l₇ ≡ set l₆ (n + 6) g
+    → l₇ ≡ sets l n (a ∷ b ∷ c ∷ d ∷ e ∷ f ∷ g ∷ [])
+seven-stored l n a b c d e f g e₁ e₂ e₃ e₄ e₅ e₆ e₇ =
+    let h₁ : n + 1 ≡ suc n = omega arith in
+    let h₂ : n + 2 ≡ suc (suc n) = omega arith in
+    let h₃ : n + 3 ≡ suc (suc (suc n)) = omega arith in
+    let h₄ : n + 4 ≡ suc (suc (suc (suc n))) = omega arith in
+    let h₅ : n + 5 ≡ suc (suc (suc (suc (suc n)))) = omega arith in
+    let h₆ : n + 6 ≡ suc (suc (suc (suc (suc (suc n))))) = omega arith in
+    rw (e₇, e₆, e₅, e₄, e₃, e₂, e₁, h₁, h₂, h₃, h₄, h₅, h₆) refl

@@ -1,0 +1,100 @@
+-- The checks of a unit and of its payload, one by one.
+use Prim.Native.Nat.{ℕ, _-_, _/_, _≤_, _<_}
+use mathlib.Core.Path.{_≡_, refl, sym, ap, _∙_, subst}
+use mathlib.Core.List.{List, [], _∷_, _++_}
+use mathlib.Core.Bool.{true, false, cond}
+use native.Mathlib.Omega.{arith}
+use borrow.Author.Tests.{le-leb, lt-leb, eq-eqb, ne-eqb}
+use lib.Dec.{leb, eqb}
+use lib.ListN.{length, getD, take, drop, length-append}
+use lib.Seq.{take-append-seam}
+use Rattle.refusals.specs.Number.{unit-too-short, not-a-vps, rbsp-too-long, work-too-short}
+use Rattle.stuffing.specs.Stuffing.{unstuff}
+use Rattle.stuffing.specs.Answers.{outputAfter}
+use Rattle.vps_definition.specs.Reading.{readRbsp, readLimited, most-rbsp-bytes, vps-nut}
+use Rattle.vps_reader.specs.Parse.{overlaid, untouched, parseOf, recordAfter, parseRbsp, parsePayload, parseUnit}
+use Rattle.vps_reader.specs.Parse as Parse
+use Rattle.vps_reader.specs.Measures.{limited-short}
+use Rattle.vps_reader.specs.Answers.{Answers, Gives}
+use Rattle.vps_reader.specs.declared.Parsed.{Parsed}
+use Rattle.vps_reader.specs.declared.Parsed.the-variants.{Refused}
+
+gives-as : {x y : Parse.Parsed} {r : Parsed} {work lent : List ℕ} → x ≡ y → Gives y r work lent → Gives x r work lent
+gives-as {r = r} {work = work} {lent = lent} e G = subst (λ (z : Parse.Parsed). Gives z r work lent) (sym e) G
+
+-- a check refuses
+refuses-all : {n : ℕ} {work lent : List ℕ} → Gives (untouched n work lent) (Refused n) work lent
+refuses-all = record { answered = refl; worked = refl; left = refl }
+
+take-whole : (s : List ℕ) → take (length s) s ≡ s
+take-whole [] = refl
+take-whole (a ∷ s) = ap (λ (x : List ℕ). a ∷ x) (take-whole s)
+
+-- all that is behind two bytes
+rest : (u : List ℕ) → take (length u - 2) (drop 2 u) ≡ drop 2 u
+rest [] = refl
+rest (a ∷ []) = refl
+rest (a ∷ b ∷ s) = let e : length (a ∷ b ∷ s) - 2 ≡ length s = omega arith in rw e (take-whole s)
+
+-- ── The unit ──────────────────────────────────────────────────────────
+module _ (u work lent : List ℕ) where
+  -- 1: fewer than two bytes
+  pub gives-short : length u < 2 → Gives (parseUnit u work lent) (Refused unit-too-short) work lent
+  unfolding parseUnit
+  gives-short l = gives-as (short u l) refuses-all
+    where
+      short : (u : List ℕ) → length u < 2 → parseUnit u work lent ≡ untouched unit-too-short work lent
+      short [] l = refl
+      short (a ∷ []) l = refl
+      short (a ∷ b ∷ s) l = absurd (omega (arith, l))
+
+  headed : 2 ≤ length u → parseUnit u work lent ≡ cond (eqb (getD u 1 0 / 8) vps-nut) (parsePayload (unstuff (drop 2 u)) work lent) (untouched not-a-vps work lent)
+  unfolding parseUnit
+  headed l = go u l
+    where
+      go : (u : List ℕ) → 2 ≤ length u → parseUnit u work lent ≡ cond (eqb (getD u 1 0 / 8) vps-nut) (parsePayload (unstuff (drop 2 u)) work lent) (untouched not-a-vps work lent)
+      go [] l = absurd (omega (arith, l))
+      go (a ∷ []) l = absurd (omega (arith, l))
+      go (a ∷ b ∷ s) l = refl
+
+  -- 2: another type
+  pub gives-other : 2 ≤ length u → (getD u 1 0 / 8 ≡ vps-nut → ⊥) → Gives (parseUnit u work lent) (Refused not-a-vps) work lent
+  gives-other l h = gives-as (headed l ∙ rw (ne-eqb (getD u 1 0 / 8) vps-nut h) refl) refuses-all
+
+  -- else as the payload is read
+  pub gives-payload : {r : Parsed} {work′ lent′ : List ℕ} → 2 ≤ length u → getD u 1 0 / 8 ≡ vps-nut → Gives (parsePayload (unstuff (take (length u - 2) (drop 2 u))) work lent) r work′ lent′ → Gives (parseUnit u work lent) r work′ lent′
+  gives-payload l t G = gives-as (headed l ∙ rw (eq-eqb (getD u 1 0 / 8) vps-nut t) (ap (λ (p : List ℕ). parsePayload (unstuff p) work lent) (sym (rest u)))) G
+
+-- ── The payload ───────────────────────────────────────────────────────
+module _ (s work lent : List ℕ) where
+  -- 3: too long an RBSP
+  pub gives-long : most-rbsp-bytes < length s → Gives (parsePayload s work lent) (Refused rbsp-too-long) work lent
+  unfolding parsePayload
+  gives-long k = gives-as (rw (lt-leb (length s) most-rbsp-bytes k) refl) refuses-all
+
+  module _ (k : length s ≤ most-rbsp-bytes) where
+    -- 4: too short a work buffer
+    pub gives-narrow : length work < length s → Gives (parsePayload s work lent) (Refused work-too-short) work lent
+    unfolding parsePayload
+    gives-narrow n = gives-as (rw (le-leb (length s) most-rbsp-bytes k, lt-leb (length s) (length work) n) refl) refuses-all
+
+    -- from 5 on, as the RBSP is read
+    pub gives-rbsp : {r : Parsed} {work′ lent′ : List ℕ} (x : List ℕ) → length s ≤ length work → work′ ≡ outputAfter s work → x ≡ s → Answers lent (readLimited x) r lent′ → Gives (parsePayload s work lent) r work′ lent′
+    unfolding parsePayload parseRbsp outputAfter
+    gives-rbsp x n w h A =
+        let e = ap readLimited h ∙ limited-short s k in
+        let f : leb (length s) (length work) ≡ true = le-leb (length s) (length work) n in
+        gives-as {y = parseRbsp s work lent} (rw (le-leb (length s) most-rbsp-bytes k, f) refl)
+        (record { answered = A .answered ∙ ap (parseOf lent) e; worked = w ∙ rw f refl; left = A .left ∙ ap (recordAfter lent) e })
+
+-- the work buffer then begins with the RBSP
+module _ (s work : List ℕ) where
+  pub begins-with : {n : ℕ} {work′ : List ℕ} → length s ≤ length work → work′ ≡ outputAfter s work → n ≡ length s → take n work′ ≡ s
+  unfolding outputAfter
+  begins-with l w e = (λ i. take (e i) (w i)) ∙ rw (le-leb (length s) (length work) l) (take-append-seam s (drop (length s) work))
+
+  pub begins-long : {n : ℕ} {work′ : List ℕ} → length s ≤ length work → work′ ≡ outputAfter s work → n ≡ length s → n ≤ length work′
+  unfolding outputAfter
+  begins-long {work′ = work′} l w e =
+      let f : work′ ≡ s ++ drop (length s) work = w ∙ rw (le-leb (length s) (length work) l) refl in
+      omega (arith, e, ap length f, length-append s (drop (length s) work))
