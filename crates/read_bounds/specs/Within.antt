@@ -17,7 +17,7 @@ use Rattle.vps_definition.specs.Syntax.Syntax.{field, code, late, keep, mark, a
 use Rattle.vps_definition.specs.Syntax.Outcome.{accepted}
 use Rattle.vps_definition.specs.Words.{u, ue, ue-minus1, inferred, u-if, ue-if, general, general-if, check, nothing, when, aligned, keeps, loop, repeat}
 use Rattle.read_steps.specs.Fits.{limit, Fits, fits-first, fits-second}
-use Rattle.read_steps.specs.Laws.{bind-assoc}
+use Rattle.vps_laws.specs.Loops.{bind-assoc}
 
 -- a reading that has room for c words fits, and so does what follows it from wherever it ends: at most c words on, with a
 -- result of which Q holds. An alignment that is refused counts as passed, as it does in `Fits`

@@ -3,7 +3,6 @@ use Prim.Native.Nat.{ℕ, zero, suc, _+_, _*_, _≤_, _<_}
 use mathlib.Core.Path.{_≡_, refl, sym, ap, _∙_, subst}
 use mathlib.Core.List.{List, [], _∷_}
 use mathlib.Core.Bool.{Bool, true, false, cond}
-use native.Mathlib.Numerals.{add-one}
 use native.Mathlib.Omega.{arith}
 use borrow.Author.Tests.{leb-true}
 use lib.Dec.{leb, eqb}
@@ -15,7 +14,8 @@ use Rattle.vps_laws.specs.Keeps.{Keeps, keeps-so, keeps-ue, keeps-check, keeps-
 use Rattle.read_steps.specs.declared.Cursor.{Cursor}
 use Rattle.read_steps.specs.Meets.{Yields}
 use Rattle.read_steps.specs.Fits.{Fits, limit}
-use Rattle.read_steps.specs.Laws.{yields-then, loop-last}
+use Rattle.vps_laws.specs.Loops.{loop-turn}
+use Rattle.read_steps.specs.Laws.{yields-then}
 use Rattle.read_entries.specs.MaxTid.{max-tid}
 use Rattle.read_dpb.specs.Grid.{rows, rows-all, triple, triples, length-triples, triples-set}
 
@@ -45,10 +45,9 @@ pub yields-turn : {s : List ℕ} {c c₁ c₂ : Cursor} (i : ℕ) (grid : List (
 unfolding repeat
 yields-turn {s} {c} {c₁} {c₂} i grid row l M N =
     let f : ℕ → Unit {0} → Syntax (Unit {0}) = λ i x. dpb-sublayer in
-    let e : loop f i 0 tt >>= f (0 + i) ≡ loop f (i + 1) 0 tt = sym (ap (λ (k : ℕ). loop f k 0 tt) (add-one i) ∙ loop-last f i 0 tt) in
     let K : Keeps (λ a t. length (numbers t) ≡ length (triples i grid)) (loop f i 0 tt) = keeps-so (threes i) (λ a t h. h ∙ sym (length-triples i grid)) in
-    subst (λ (m : Syntax (Unit {0})). Yields m s c tt c₂ (triples (i + 1) (set grid i row))) e
-    (subst (Yields (loop f i 0 tt >>= f (0 + i)) s c tt c₂) (triples-set i grid row l) (yields-then (loop f i 0 tt) (f (0 + i)) K M N))
+    subst (λ (m : Syntax (Unit {0})). Yields m s c tt c₂ (triples (i + 1) (set grid i row))) (loop-turn f i tt)
+    (subst (Yields (loop f i 0 tt >>= f i) s c tt c₂) (triples-set i grid row l) (yields-then (loop f i 0 tt) (f i) K M N))
 
 -- some sublayers are read only where the cursor has room
 pub sublayers-room : (k : ℕ) (s : List ℕ) (at n : ℕ) → Fits (repeat k dpb-sublayer) s at n → 0 < k → n < limit

@@ -6,7 +6,7 @@ use Rattle.vps_definition.specs.Syntax.{Syntax, _>>=_}
 use Rattle.vps_definition.specs.Syntax.Syntax.{done}
 use Rattle.vps_definition.specs.Words.{u-if, check, repeat}
 use Rattle.vps_definition.specs.DpbParameters.{sublayers, per-sublayer}
-use Rattle.read_steps.specs.Laws.{bind-assoc}
+use Rattle.vps_laws.specs.Loops.{bind-assoc}
 
 -- the max tid, coded unless all have the default
 unfoldable pub max-tid : (default-max-tid-flag max-sublayers-minus1 refusal : ℕ) → Syntax ℕ

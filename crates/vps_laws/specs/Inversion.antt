@@ -206,7 +206,7 @@ emit-writes {a} {t} {y} {b} (done c) r x at e =
     let o : [] ≡ b = cc in
     rw (← i, ← j, ← l, ← o) write-done
 
-open-guard : {A : Type 0} {W X : Written A} (c : Bool) → c ≡ true → W ≡ X → elim c as (λ d. Written A) [ true ↦ W | false ↦ bad ] ≡ X
+pub open-guard : {A : Type 0} {W X : Written A} (c : Bool) → c ≡ true → W ≡ X → elim c as (λ d. Written A) [ true ↦ W | false ↦ bad ] ≡ X
 open-guard true e h = h
 open-guard false e h = absurd (let n : _≡_ {A = ℕ} 0 1 = cc in omega arith)
 

@@ -1,5 +1,6 @@
 pub mod Inversion
 pub mod Bind
+pub mod Loops
 pub mod Reading
 pub mod Writing
 pub mod RoundTrip

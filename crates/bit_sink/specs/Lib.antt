@@ -1,0 +1,4 @@
+pub mod SoFar
+pub mod Packing
+pub mod Holds
+pub mod Laws

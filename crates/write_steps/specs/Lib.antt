@@ -1,0 +1,5 @@
+pub mod Does
+pub mod Pushes
+pub mod Laws
+pub mod Turns
+pub mod Marked
