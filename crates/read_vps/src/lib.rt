@@ -4,14 +4,30 @@ ghost use mathlib.Core.List.{List, [], _∷_};
 ghost use Prim.Native.Nat.{ℕ, _≤_};
 ghost use Rattle.vps_definition.specs.Words.{when};
 ghost use Rattle.vps_definition.specs.TimingHrd.{timing-section};
-ghost use Rattle.vps_definition.specs.Vps.{ols-section, multi-layer-sections, single-layer-sections, buffer-sections, vps};
+ghost use Rattle.vps_definition.specs.Vps.{ptl-section, ols-section, multi-layer-sections, single-layer-sections, buffer-sections, vps};
 ghost use Rattle.read_steps.specs.Meets.{Meets};
 ghost use Rattle.read_steps.specs.Marked.{Marked};
 ghost use Rattle.read_layers.specs.Headers.{headerOf};
 ghost use Rattle.read_vps.specs.Whole.{generalIn, startsIn};
 use read_layers::Header;
 use read_steps::Cursor;
+use read_steps::Took;
 use refusals::PTL_INDEX;
+
+// The PTLs, whose fields the header decides.
+fn read_ptls(bytes: &[u8], rec: &mut [u32], c: Cursor, h: Header, total: u32) -> Took
+    ensures { λ r. ⌜ (h .«max_sublayers_minus1» ≤ 7 → Meets (ptl-section (headerOf h) total) (now (bytes .entry)) c (r .v) (r .next) (now (rec .entry)) (now (rec .exit))) ⌝ }
+{
+    read_ptl::read_ptl_section(
+        bytes,
+        rec,
+        c,
+        h.layers,
+        h.default_max_tid_flag,
+        h.max_sublayers_minus1,
+        total,
+    )
+}
 
 // The number of sets, and each one's PTL index.
 fn read_ols_section(bytes: &[u8], rec: &mut [u32], c: Cursor, ptls: u32, total: u32) -> Cursor
@@ -133,26 +149,29 @@ pub struct Whole {
     pub next: Cursor,
 }
 
+impl Whole {
+    // The most layers.
+    pub const MOST_LAYERS: usize = 64;
+
+    // The numbers of the record's General section, before the table's own.
+    pub const GENERAL: usize = 9;
+
+    // The numbers of its trailer: the starts, and the total length.
+    pub const TRAILER: usize = 8;
+}
+
 // The whole table, stored from the cursor on.
 pub fn read_vps(bytes: &[u8], rec: &mut [u32], c: Cursor) -> Whole
     ensures { λ r. ⌜ Marked vps (now (bytes .entry)) c (generalIn r) (r .next) (now (rec .entry)) (now (rec .exit)) (startsIn r) ⌝ }
 {
-    let mut closed = [0u64; 64];
+    let mut closed = [0u64; Whole::MOST_LAYERS];
     let head = read_layers::read_header(bytes, c);
     let h = head.header;
     let first = head.next;
     let layers = read_layers::read_layers(bytes, rec, &mut closed, first, h);
     let sets = read_layers::read_sets(bytes, rec, &closed, layers, h);
     let listed = sets.next;
-    let ptls = read_ptl::read_ptl_section(
-        bytes,
-        rec,
-        listed,
-        h.layers,
-        h.default_max_tid_flag,
-        h.max_sublayers_minus1,
-        sets.total,
-    );
+    let ptls = read_ptls(bytes, rec, listed, h, sets.total);
     let levels = ptls.next;
     let olss = read_ols_section(bytes, rec, levels, ptls.v, sets.total);
     let buffers = read_buffer_sections(bytes, rec, olss, h, sets.each_layer_flag, sets.multi);

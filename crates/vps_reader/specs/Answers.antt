@@ -40,20 +40,23 @@ module _ {s : List ℕ} {w : Whole} {count bits : ℕ} (F : Found s w count bits
   answers-as : {x : Reading} {r : Parsed} {after : List ℕ} → x ≡ readLimited s → Answers lent x r after → Answers lent (readLimited s) r after
   answers-as {r = r} {after = after} e A = record { answered = A .answered ∙ ap (parseOf lent) e; left = A .left ∙ ap (recordAfter lent) e }
 
-  pub answers-short : length lent < w .next .n + count + 9 → Answers lent (readLimited s) (TooShort (w .next .n + count + 9)) lent
-  unfolding parseOf recordAfter
-  answers-short l =
-      let k = found-length F in
-      let b : leb (length (recordIn F)) (length lent) ≡ false = lt-leb (length (recordIn F)) (length lent) (omega (arith, k, l)) in
-      answers-as (sym (found-accepts F)) (record { answered = rw b (ap too-short (sym k)); left = rw b refl })
+  -- so many numbers are needed
+  module _ {needed : ℕ} (n : needed ≡ w .next .n + count + 9) where
+    long : length (recordIn F) ≡ needed
+    long = found-length F ∙ sym n
 
-  pub answers-filled : {after : List ℕ} → w .next .n + count + 9 ≤ length lent → after ≡ sets lent 0 (recordIn F) → Answers lent (readLimited s) (Accepted (w .next .n + count + 9) bits) after
-  unfolding parseOf recordAfter
-  answers-filled l e =
-      let k = found-length F in
-      let h : length (recordIn F) ≤ length lent = omega (arith, k, l) in
-      let b : leb (length (recordIn F)) (length lent) ≡ true = le-leb (length (recordIn F)) (length lent) h in
-      answers-as (sym (found-accepts F)) (record { answered = rw b (ap (λ (n : ℕ). accepted n bits) (sym k)); left = rw b (e ∙ stored-whole lent (recordIn F) h) })
+    pub answers-short : length lent < needed → Answers lent (readLimited s) (TooShort needed) lent
+    unfolding parseOf recordAfter
+    answers-short l =
+        let b : leb (length (recordIn F)) (length lent) ≡ false = lt-leb (length (recordIn F)) (length lent) (omega (arith, long, l)) in
+        answers-as (sym (found-accepts F)) (record { answered = rw b (ap too-short (sym long)); left = rw b refl })
+
+    pub answers-filled : {after : List ℕ} → needed ≤ length lent → after ≡ sets lent 0 (recordIn F) → Answers lent (readLimited s) (Accepted needed bits) after
+    unfolding parseOf recordAfter
+    answers-filled l e =
+        let h : length (recordIn F) ≤ length lent = omega (arith, long, l) in
+        let b : leb (length (recordIn F)) (length lent) ≡ true = le-leb (length (recordIn F)) (length lent) h in
+        answers-as (sym (found-accepts F)) (record { answered = rw b (ap (λ (n : ℕ). accepted n bits) (sym long)); left = rw b (e ∙ stored-whole lent (recordIn F) h) })
 
 pub answers-refused : (s : List ℕ) {n : ℕ} (lent : List ℕ) → readLimited s ≡ refuses n → Answers lent (readLimited s) (Refused n) lent
 unfolding parseOf recordAfter

@@ -72,7 +72,7 @@ fn measure(bytes: &[u8]) -> Measured
         return Measured::Refused(RBSP_TOO_LONG);
     }
     let mut none = [0u32; 1];
-    let whole = read_vps::read_vps(bytes, &mut none, Cursor::new(9));
+    let whole = read_vps::read_vps(bytes, &mut none, Cursor::new(Whole::GENERAL));
     let next = whole.next;
     if next.refused != 0 {
         return Measured::Refused(next.refused);
@@ -121,7 +121,7 @@ fn store_trailer(rec: &mut [u32], n: usize, w: Whole)
     store_number(rec, n + 4, w.dpb);
     store_number(rec, n + 5, w.timing);
     store_number(rec, n + 6, w.extension);
-    store_number(rec, n + 7, n + 8);
+    store_number(rec, n + 7, n + Whole::TRAILER);
 }
 
 // The second pass: the whole record is stored.
@@ -130,7 +130,7 @@ fn fill(bytes: &[u8], rec: &mut [u32], w: Whole, count: usize)
     ensures { λ _. ⌜ ((bits : ℕ) (F : Found (now (bytes .entry)) w count bits) → now (rec .exit) ≡ sets (now (rec .entry)) 0 (recordIn F)) ⌝ }
 {
     store_general(rec, w);
-    read_vps::read_vps(bytes, rec, Cursor::new(9));
+    read_vps::read_vps(bytes, rec, Cursor::new(Whole::GENERAL));
     let next = w.next;
     store_number(rec, next.n, count);
     read_extension::store_bits(bytes, rec, next.n + 1, next.at, count);
@@ -143,7 +143,7 @@ fn fill_where_room(bytes: &[u8], record: &mut [u32], w: Whole, count: usize, bit
     ensures { λ r. ⌜ (Found (now (bytes .entry)) w count bits → Answers (now («record» .entry)) (readLimited (now (bytes .entry))) r (now («record» .exit))) ⌝ }
 {
     let next = w.next;
-    let needed = next.n + count + 9;
+    let needed = next.n + count + 1 + Whole::TRAILER;
     if record.len() < needed {
         return Parsed::TooShort(needed);
     }

@@ -25,8 +25,8 @@ slice-aggregate-read-sets c = search needs
 read-sets-requires : tie.Need-read-sets-requires
 read-sets-requires c κs = search needs
 
-read-ptl-section-requires : tie.Need-read-ptl-section-requires
-read-ptl-section-requires c κs = search needs
+read-ptls-requires : tie.Need-read-ptls-requires
+read-ptls-requires c κs = search needs
 
 read-ols-section-requires : tie.Need-read-ols-section-requires
 read-ols-section-requires c κs = search needs
@@ -38,7 +38,7 @@ take-late-requires : tie.Need-take-late-requires
 take-late-requires c κs = search needs
 
 same-length : tie.Need-same-length
-same-length c = search (needs, c .before .before .before .before .before .before .before .before .before .before .before .before .before .before .before .before .before .before .before .before .before .before .before .before .read-layers, c .before .before .before .before .before .before .before .before .before .before .before .before .before .before .before .before .before .before .read-sets, c .before .before .before .before .before .before .before .before .before .before .before .before .before .read-ptl-section, c .before .before .before .before .before .before .before .before .read-ols-section, c .before .before .before .before .read-buffer-sections)
+same-length c = search (needs, c .before .before .before .before .before .before .before .before .before .before .before .before .before .before .before .before .before .before .before .before .before .before .before .before .read-layers, c .before .before .before .before .before .before .before .before .before .before .before .before .before .before .before .before .before .before .read-sets, c .before .before .before .before .before .before .before .before .before .before .before .before .before .read-ptls, c .before .before .before .before .before .before .before .before .read-ols-section, c .before .before .before .before .read-buffer-sections)
 
 returns : tie.Need-returns
 unfolding vps
@@ -49,7 +49,7 @@ returns c =
     marked-then _ _ (marked-plain plain-header (H .meets _))
     (marked-then _ _ (marked-mark (marked-plain (plain-layers-section _) (L .meets)))
     (marked-then _ _ (S .marked)
-    (marked-then _ _ (marked-mark (marked-plain (plain-ptl-section _ _) (meets-as (ap (ptl-section _) (S .counted .all)) (c .before .before .before .before .before .before .before .before .before .before .before .before .before .read-ptl-section .ensures _ (record { layers′ = refl; flag′ = refl; top′ = refl }) (omega (arith, H .sublayers-7))))))
+    (marked-then _ _ (marked-mark (marked-plain (plain-ptl-section _ _) (meets-as (ap (ptl-section _) (S .counted .all)) (c .before .before .before .before .before .before .before .before .before .before .before .before .before .read-ptls .ensures (omega (arith, H .sublayers-7))))))
     (marked-then _ _ (marked-mark (marked-plain (plain-ols-section _ _) (meets-as (ap (ols-section _) (S .counted .all)) (c .before .before .before .before .before .before .before .before .read-ols-section .ensures))))
     (marked-then _ _ (marked-as (ap (buffer-sections _ _) (S .counted .many)) (c .before .before .before .before .read-buffer-sections .ensures (H .sublayers-7)))
     (marked-then _ _ (marked-plain (plain-general 8 1) (meets-general 8 1 _ (c .before .take-late .ensures)))
@@ -64,7 +64,7 @@ read-vps-spec =
     read-layers-requires
     slice-aggregate-read-sets
     read-sets-requires
-    read-ptl-section-requires
+    read-ptls-requires
     read-ols-section-requires
     read-buffer-sections-requires
     take-late-requires

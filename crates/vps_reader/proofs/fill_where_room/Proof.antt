@@ -11,8 +11,11 @@ add-needed c = omega (arith, c .before .before .before .before .pre)
 add-needed-2 : tie.Need-add-needed-2
 add-needed-2 c = omega (arith, c .before .before .before .before .pre)
 
+add-needed-3 : tie.Need-add-needed-3
+add-needed-3 c = omega (arith, c .before .before .before .before .pre)
+
 returns : tie.Need-returns
-returns c F = answers-short F _ (c .if1 .taken)
+returns c F = answers-short F _ (omega arith) (c .if1 .taken)
 
 fill-requires : tie.Need-fill-requires
 fill-requires c κs = c .before .before .before .before .before .before .pre
@@ -21,8 +24,9 @@ same-length : tie.Need-same-length
 same-length c = search (needs, c .before .before .fill)
 
 returns-2 : tie.Need-returns-2
-returns-2 c F = answers-filled F _ (c .before .before .before .before .if1 .left) (c .before .before .fill .ensures _ F)
+returns-2 c F = answers-filled F _ (omega arith) (c .before .before .before .before .if1 .left) (c .before .before .fill .ensures _ F)
 
 pub fill-where-room-spec : {M : Type 1} → statement M
 fill-where-room-spec =
-    tie.close (tie.spec add-needed add-needed-2 returns fill-requires same-length returns-2)
+    tie.close
+    (tie.spec add-needed add-needed-2 add-needed-3 returns fill-requires same-length returns-2)
