@@ -66,13 +66,13 @@ extension-of : (general : List ℕ) (t : List Token) (e : List ℕ) → extensio
 unfolding extensionOf
 extension-of general t e = take-append-seam e (starts 9 t ++ ((length (bodyOf general t e) + 8) ∷ []))
 
-same-refl : (x : List ℕ) → same x x ≡ true
+pub same-refl : (x : List ℕ) → same x x ≡ true
 unfolding same
 same-refl [] = refl
 same-refl (a ∷ x) = rw (eq-eqb a a refl, same) (same-refl x)
 
 -- ── What was read is written ──────────────────────────────────────────
-finished-of : (r general : List ℕ) (t : List Token) (y b e : List ℕ) → extensionOf y ≡ e → recordOf general t e ≡ r → extensionGood (getD general 8 0) e ≡ true
+pub finished-of : (r general : List ℕ) (t : List Token) (y b e : List ℕ) → extensionOf y ≡ e → recordOf general t e ≡ r → extensionGood (getD general 8 0) e ≡ true
     → length (rbspOf b e) ≤ most-rbsp-bytes → finished r (wrote general t y b) ≡ success (unitOf (rbspOf b e))
 unfolding finished partsGood limited
 finished-of r general t y b e x i g l =

@@ -95,7 +95,7 @@ unfolding readUnit readLimited
 accepted-unit a b s r n h l e = rw (eq-eqb (b / 8) vps-nut h, readUnit) (rw (le-leb (length (unstuff s)) most-rbsp-bytes l, readLimited) e)
 
 -- ── What is written reads back ────────────────────────────────────────
-same-true : (x y : List ℕ) → same x y ≡ true → x ≡ y
+pub same-true : (x y : List ℕ) → same x y ≡ true → x ≡ y
 unfolding same
 same-true [] [] e = refl
 same-true [] (b ∷ y) e = absurd (let n : _≡_ {A = ℕ} 0 1 = cc in omega arith)

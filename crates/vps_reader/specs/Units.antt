@@ -7,7 +7,7 @@ use native.Mathlib.Omega.{arith}
 use borrow.Author.Tests.{le-leb, lt-leb, eq-eqb, ne-eqb}
 use lib.Dec.{leb, eqb}
 use lib.ListN.{length, getD, take, drop, length-append}
-use lib.Seq.{take-append-seam}
+use lib.Seq.{take-length, take-append-seam}
 use Rattle.refusals.specs.Number.{unit-too-short, not-a-vps, rbsp-too-long, work-too-short}
 use Rattle.stuffing.specs.Stuffing.{unstuff}
 use Rattle.stuffing.specs.Answers.{outputAfter}
@@ -26,15 +26,11 @@ gives-as {r = r} {work = work} {lent = lent} e G = subst (λ (z : Parse.Parsed).
 refuses-all : {n : ℕ} {work lent : List ℕ} → Gives (untouched n work lent) (Refused n) work lent
 refuses-all = record { answered = refl; worked = refl; left = refl }
 
-take-whole : (s : List ℕ) → take (length s) s ≡ s
-take-whole [] = refl
-take-whole (a ∷ s) = ap (λ (x : List ℕ). a ∷ x) (take-whole s)
-
 -- all that is behind two bytes
 rest : (u : List ℕ) → take (length u - 2) (drop 2 u) ≡ drop 2 u
 rest [] = refl
 rest (a ∷ []) = refl
-rest (a ∷ b ∷ s) = let e : length (a ∷ b ∷ s) - 2 ≡ length s = omega arith in rw e (take-whole s)
+rest (a ∷ b ∷ s) = let e : length (a ∷ b ∷ s) - 2 ≡ length s = omega arith in rw e (take-length s)
 
 -- ── The unit ──────────────────────────────────────────────────────────
 module _ (u work lent : List ℕ) where
