@@ -34,7 +34,7 @@ unfolding bitsAt allFlags
 bits-at-flags s at zero = refl
 bits-at-flags s at (suc n) = rw (le-leb (bitAt s at) 1 (omega (arith, bit-lt s at)), allFlags) (bits-at-flags s (at + 1) n)
 
-pub flags-bits : (e : List ℕ) → allFlags e ≡ true → AllBits e
+flags-bits : (e : List ℕ) → allFlags e ≡ true → AllBits e
 unfolding allFlags
 flags-bits [] h = tt
 flags-bits (b ∷ e) h = go (flags-bits e) (leb b 1) refl h

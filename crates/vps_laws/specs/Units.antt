@@ -111,20 +111,24 @@ pub record Packed (b e : List ℕ) : Type 0 where
   pub stands : BitsAt (rbspOf b e) 0 ((b ++ e) ++ trailingBits (length (b ++ e)))
   pub size : 8 * length (rbspOf b e) ≡ length b + length e + 1 + toBoundary (length b + length e + 1)
 
+-- how many bits they are with the trailing bits
+whole-bytes : (b e : List ℕ) → length ((b ++ e) ++ trailingBits (length (b ++ e))) ≡ length (b ++ e) + 1 + toBoundary (length (b ++ e) + 1)
+whole-bytes b e = let d : ℕ = length (b ++ e) in let m = trailing-length d in omega (arith, length-append (b ++ e) (trailingBits d))
+
+pub rbsp-size : (b e : List ℕ) → 8 * length (rbspOf b e) ≡ length b + length e + 1 + toBoundary (length b + length e + 1)
+unfolding rbspOf
+rbsp-size b e =
+    let d : ℕ = length (b ++ e) in
+    let o = whole-bytes b e in
+    pack-length ((b ++ e) ++ trailingBits d) (ap (λ (n : ℕ). n % 8) o ∙ boundary (d + 1)) ∙ o ∙ ap (λ (n : ℕ). n + 1 + toBoundary (n + 1)) (length-append b e)
+
 pub packed : (b e : List ℕ) → AllBits b → AllBits e → Packed b e
 unfolding rbspOf
 packed b e B E =
     let d : ℕ = length (b ++ e) in
     let c : List ℕ = (b ++ e) ++ trailingBits d in
-    let l : d ≡ length b + length e = length-append b e in
-    let m = trailing-length d in
-    let o : length c ≡ d + 1 + toBoundary (d + 1) = omega (arith, length-append (b ++ e) (trailingBits d)) in
-    let z : length c % 8 ≡ 0 = ap (λ (n : ℕ). n % 8) o ∙ boundary (d + 1) in
     let A : AllBits c = all-join (b ++ e) (trailingBits d) (all-join b e B E) (lit< tt, all-zeros (toBoundary (d + 1))) in
-    record {
-      stands = pack-bits c [] A z 0 refl;
-      size = pack-length c z ∙ o ∙ ap (λ (n : ℕ). n + 1 + toBoundary (n + 1)) l;
-    }
+    record { stands = pack-bits c [] A (ap (λ (n : ℕ). n % 8) (whole-bytes b e) ∙ boundary (d + 1)) 0 refl; size = rbsp-size b e }
 
 -- an RBSP of the table's bits and the extension's is read as their record
 read-packed : (general : List ℕ) (t : List Token) (b e : List ℕ) → AllBits b → extensionGood (getD general 8 0) e ≡ true

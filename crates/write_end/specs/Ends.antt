@@ -13,7 +13,6 @@ use Rattle.refusals.specs.Answer.{Answer}
 use Rattle.refusals.specs.Answer.Answer.{success, refusal}
 use Rattle.refusals.specs.Number.{not-well-formed}
 use Rattle.stuffing.specs.Stuffing.{stuff}
-use Rattle.bits.specs.ByteLaws.{AllBits}
 use Rattle.vps_definition.specs.Syntax.{Syntax, _>>=_, Token, starts, Written, putting, emit}
 use Rattle.vps_definition.specs.Syntax.Token.{number}
 use Rattle.vps_definition.specs.Syntax.Written.{wrote, bad}
@@ -21,8 +20,7 @@ use Rattle.vps_definition.specs.Words.{inferred, repeat}
 use Rattle.vps_definition.specs.Reading.{most-rbsp-bytes}
 use Rattle.vps_definition.specs.Writing.{allFlags, endsInOne, extensionGood, extensionOf, rbspOf, unitOf, limited, partsGood, finished}
 use Rattle.vps_laws.specs.OutputLayerSets.{and-both}
-use Rattle.vps_laws.specs.Extension.{flags-bits}
-use Rattle.vps_laws.specs.Units.{packed}
+use Rattle.vps_laws.specs.Units.{rbsp-size}
 use Rattle.vps_laws.specs.Accepted.{finished-of}
 use Rattle.write_steps.specs.Does.{Fails}
 use Rattle.write_end.specs.Parts.{Taken, Passed, trailerOf, countIn, parts-good, parts-passed, made-up}
@@ -184,13 +182,13 @@ finished-long r g t x b l = go (partsGood g t (extensionOf x) r)
     go false = refl
 
 -- bits and their trailing bits are an RBSP of so many bytes
-pub rbsp-long : (b e : List ℕ) → AllBits b → allFlags e ≡ true → 8 * most-rbsp-bytes ≤ length b + length e → most-rbsp-bytes < length (rbspOf b e)
-rbsp-long b e B f l = omega (arith, l, packed b e B (flags-bits e f) .size)
+pub rbsp-long : (b e : List ℕ) → 8 * most-rbsp-bytes ≤ length b + length e → most-rbsp-bytes < length (rbspOf b e)
+rbsp-long b e l = omega (arith, l, rbsp-size b e)
 
-pub rbsp-short : (b e : List ℕ) → AllBits b → allFlags e ≡ true → length b + length e < 8 * most-rbsp-bytes → length (rbspOf b e) ≤ most-rbsp-bytes
-rbsp-short b e B f l = omega (arith, l, packed b e B (flags-bits e f) .size)
+rbsp-short : (b e : List ℕ) → length b + length e < 8 * most-rbsp-bytes → length (rbspOf b e) ≤ most-rbsp-bytes
+rbsp-short b e l = omega (arith, l, rbsp-size b e)
 
-module _ {r g : List ℕ} {t : List Token} {c : ℕ} (T : Taken r g t c) (A : Almost r g t c) (d : List ℕ) (B : AllBits d) where
+module _ {r g : List ℕ} {t : List Token} {c : ℕ} (T : Taken r g t c) (A : Almost r g t c) (d : List ℕ) where
   some : 1 ≤ length (drop c r)
   some = omega (arith, A .total, length-drop c r)
 
@@ -206,7 +204,7 @@ module _ {r g : List ℕ} {t : List Token} {c : ℕ} (T : Taken r g t c) (A : Al
   unfolding extensionOf
   ends-long {b = b} e l =
       let F = written e in
-      finished-long r g t (drop c r) d (rbsp-long d (extensionOf (drop c r)) B (F .flags) (omega (arith, l, ap length (F .bits))))
+      finished-long r g t (drop c r) d (rbsp-long d (extensionOf (drop c r)) (omega (arith, l, ap length (F .bits))))
 
   pub ends-bad : Fails (length d) (emit (extension-table (countIn r c)) r (drop c r) (length d)) → finished r (wrote g t (drop c r) d) ≡ refusal not-well-formed
   unfolding extensionOf extensionGood
@@ -226,5 +224,5 @@ module _ {r g : List ℕ} {t : List Token} {c : ℕ} (T : Taken r g t c) (A : Al
   ends-good {b = b} e l =
       let F = written e in
       let P = almost-passed T A (F .flags) in
-      finished-of r g t (drop c r) d (extensionOf (drop c r)) refl (made-up T P) (P .extension) (rbsp-short d (extensionOf (drop c r)) B (F .flags) (omega (arith, l, ap length (F .bits))))
+      finished-of r g t (drop c r) d (extensionOf (drop c r)) refl (made-up T P) (P .extension) (rbsp-short d (extensionOf (drop c r)) (omega (arith, l, ap length (F .bits))))
       ∙ ap (λ (x : List ℕ). success (unitOf (rbspOf d x))) (sym (F .bits))

@@ -30,7 +30,7 @@ returns-2 : tie.Need-returns-2
 returns-2 c start d lent t R T q f =
     record {
       good = λ e. absurd (true≢false e);
-      refused = λ e. ends-bad T (is-almost (c .before .before .before .before .before .before .before .before .before .before .before .args .rec .now) (c .before .before .before .before .before .before .before .before .before .before .before .args .general .now) t (c .before .before .before .before .before .before .before .before .before .before .before .args .p .c) (c .before .before .before .before .before .before .has-end .result) (c .before .before .before .before .before .before .has-end .ensures t T q f) (not-false _ (c .before .before .before .before .before .if1 .left))) d (R .holds .binary) (c .before .before .before .write-extension .ensures .fails R (c .if2 .taken));
+      refused = λ e. ends-bad T (is-almost (c .before .before .before .before .before .before .before .before .before .before .before .args .rec .now) (c .before .before .before .before .before .before .before .before .before .before .before .args .general .now) t (c .before .before .before .before .before .before .before .before .before .before .before .args .p .c) (c .before .before .before .before .before .before .has-end .result) (c .before .before .before .before .before .before .has-end .ensures t T q f) (not-false _ (c .before .before .before .before .before .if1 .left))) d (c .before .before .before .write-extension .ensures .fails R (c .if2 .taken));
     }
 
 same-length-2 : tie.Need-same-length-2
@@ -41,7 +41,7 @@ returns-3 c start d lent t R T q f =
     let W = c .before .before .before .before .before .before .write-extension .ensures .writes R (c .before .before .before .if2 .left) in
     record {
       good = λ e. absurd (true≢false e);
-      refused = λ e. ends-long T (is-almost (c .before .before .before .before .before .before .before .before .before .before .before .before .before .before .args .rec .now) (c .before .before .before .before .before .before .before .before .before .before .before .before .before .before .args .general .now) t (c .before .before .before .before .before .before .before .before .before .before .before .before .before .before .args .p .c) (c .before .before .before .before .before .before .before .before .before .has-end .result) (c .before .before .before .before .before .before .before .before .before .has-end .ensures t T q f) (not-false _ (c .before .before .before .before .before .before .before .before .if1 .left))) d (R .holds .binary) (W .is) (omega (arith, c .if3 .taken, W .ready .holds .counted, length-append d (W .bits)));
+      refused = λ e. ends-long T (is-almost (c .before .before .before .before .before .before .before .before .before .before .before .before .before .before .args .rec .now) (c .before .before .before .before .before .before .before .before .before .before .before .before .before .before .args .general .now) t (c .before .before .before .before .before .before .before .before .before .before .before .before .before .before .args .p .c) (c .before .before .before .before .before .before .before .before .before .has-end .result) (c .before .before .before .before .before .before .before .before .before .has-end .ensures t T q f) (not-false _ (c .before .before .before .before .before .before .before .before .if1 .left))) d (W .is) (omega (arith, c .if3 .taken, W .ready .holds .counted, length-append d (W .bits)));
     }
 
 finish-requires : tie.Need-finish-requires
@@ -60,7 +60,7 @@ returns-4 c start d lent t R T q f =
           λ e.
           record {
             rbsp = rbspOf d (W .bits);
-            is = ends-good T (is-almost (c .before .before .before .before .before .before .before .before .before .before .before .before .before .before .before .before .before .before .args .rec .now) (c .before .before .before .before .before .before .before .before .before .before .before .before .before .before .before .before .before .before .args .general .now) t (c .before .before .before .before .before .before .before .before .before .before .before .before .before .before .before .before .before .before .args .p .c) (c .before .before .before .before .before .before .before .before .before .before .before .before .before .has-end .result) (c .before .before .before .before .before .before .before .before .before .before .before .before .before .has-end .ensures t T q f) (not-false _ (c .before .before .before .before .before .before .before .before .before .before .before .before .if1 .left))) d (R .holds .binary) (W .is) (omega (arith, c .before .before .before .before .if3 .left, W .ready .holds .counted, length-append d (W .bits)));
+            is = ends-good T (is-almost (c .before .before .before .before .before .before .before .before .before .before .before .before .before .before .before .before .before .before .args .rec .now) (c .before .before .before .before .before .before .before .before .before .before .before .before .before .before .before .before .before .before .args .general .now) t (c .before .before .before .before .before .before .before .before .before .before .before .before .before .before .before .before .before .before .args .p .c) (c .before .before .before .before .before .before .before .before .before .before .before .before .before .has-end .result) (c .before .before .before .before .before .before .before .before .before .before .before .before .before .has-end .ensures t T q f) (not-false _ (c .before .before .before .before .before .before .before .before .before .before .before .before .if1 .left))) d (W .is) (omega (arith, c .before .before .before .before .if3 .left, W .ready .holds .counted, length-append d (W .bits)));
             long = H .0;
             stored = H .1;
           };
