@@ -91,12 +91,12 @@ type Answered = (Unit, Reading);
 
 // What units are counted by: the refusal's number, or the mode.
 #[derive(Clone, Copy, PartialEq, Eq, PartialOrd, Ord)]
-enum Answer {
+pub enum Answer {
     Refused(u32),
     Accepted(Mode),
 }
 
-fn answer_of(reading: &Reading) -> Answer {
+pub fn answer_of(reading: &Reading) -> Answer {
     match reading {
         Reading::Refused(number) => Answer::Refused(*number),
         Reading::Accepted { record, .. } => Answer::Accepted(mode_of(record)),
@@ -177,8 +177,8 @@ fn counts(units: &[&Answered]) -> String {
 
 // ── Records ─────────────────────────────────────────────────────────────
 
-const U: &str = "0071100000030233000040";
-const D: &str = "0071104000480002330000fc90";
+pub const U: &str = "0071100000030233000040";
+pub const D: &str = "0071104000480002330000fc90";
 
 // A record of a name, and what was made of it, in antt and as numbers.
 struct Records {
@@ -409,12 +409,12 @@ fn two_of_each(d: &VvcVps) -> VvcVps {
     v
 }
 
-fn vps_of(hex: &str) -> VvcVps {
+pub fn vps_of(hex: &str) -> VvcVps {
     parse_vps(&unit_of(hex).expect("pairs of hexadecimal digits")).expect("an accepted unit")
 }
 
 // Timing for one multi-layer set of one sublayer.
-fn timing(nal: u8, vcl: u8, du: u8, count: u32) -> VvcVpsTimingHrd {
+pub fn timing(nal: u8, vcl: u8, du: u8, count: u32) -> VvcVpsTimingHrd {
     let hrd = || Some(schedules((du == 1).then_some((6, 7)), count));
     let sublayer = VvcOlsTimingHrdSublayer {
         fixed_pic_rate_general_flag: 0,

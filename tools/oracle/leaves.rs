@@ -38,7 +38,7 @@ const TRAILING: u8 = 5;
 const PLACE_LIMIT: u64 = 1 << 63;
 
 pub fn list() -> List {
-    let mut leaves = Leaves { list: List::default(), random: Random::new(0x4832_3636) };
+    let mut leaves = Leaves { list: List::new(4_096), random: Random::new(0x4832_3636) };
     leaves.stuffing();
     leaves.peeking();
     leaves.reading();

@@ -1,13 +1,18 @@
 // A list for a replay program: records of a tag, a length in two bytes and so many bytes of content.
 // Numbers stand with their highest byte first. A record of tag 0 ends a kind of cases and names it.
-#[derive(Default)]
 pub struct List {
+    // the most bytes of content: the replay program's buffer
+    most: usize,
     bytes: Vec<u8>,
     count: usize,
     counts: String,
 }
 
 impl List {
+    pub fn new(most: usize) -> Self {
+        Self { most, bytes: Vec::new(), count: 0, counts: String::new() }
+    }
+
     pub fn case(&mut self, tag: u8, content: &[u8]) {
         self.record(tag, content);
         self.count += 1;
@@ -20,7 +25,7 @@ impl List {
     }
 
     fn record(&mut self, tag: u8, content: &[u8]) {
-        assert!(content.len() <= 4096, "a record must fit the replay program's buffer");
+        assert!(content.len() <= self.most, "a record must fit the replay program's buffer");
         self.bytes.push(tag);
         self.bytes.extend((content.len() as u16).to_be_bytes());
         self.bytes.extend(content);

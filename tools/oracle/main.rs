@@ -8,8 +8,10 @@ mod random;
 mod record;
 mod records;
 mod refusal;
+mod samples;
 mod show;
 mod structures;
+mod unit_list;
 mod units;
 
 use std::io::Write;
@@ -17,12 +19,16 @@ use std::process::ExitCode;
 
 const USAGE: &str = "oracle leaves                                the list that crates/leaves_replay replays, as bytes
 oracle leaves expected                       what it is to print
+oracle unit-list                             the list that crates/units_replay replays, as bytes
+oracle unit-list expected                    what it is to print
+oracle unit-list shapes                      how many of its accepted cases show each shape
 oracle show HEX                              the Rust's answer for a unit
 oracle records                               what the Rust writes for records that are not well formed
 oracle units SEED COUNT MAXBYTES             a line a unit: bytes, and record with bits used, or refusal
 oracle units-summary SEED COUNT MAXBYTES     how many of those each refusal and each shape has
 oracle changed-records SEED COUNT MAXBYTES   a line a record: numbers, and the unit of at most so many bytes, or 31
-oracle definition-units FOLDER               writes the tables of crates/definition_units into that folder";
+oracle definition-units FOLDER               writes the tables of crates/definition_units into that folder
+oracle samples FOLDER                        writes the units of samples/ into that folder";
 
 fn main() -> ExitCode {
     let arguments: Vec<String> = std::env::args().skip(1).collect();
@@ -30,6 +36,9 @@ fn main() -> ExitCode {
     match words.as_slice() {
         ["leaves"] => write_out(leaves::list().bytes()),
         ["leaves", "expected"] => write_out(leaves::list().expected().as_bytes()),
+        ["unit-list"] => write_out(unit_list::list().bytes()),
+        ["unit-list", "expected"] => write_out(unit_list::list().expected().as_bytes()),
+        ["unit-list", "shapes"] => write_out(unit_list::shapes_shown().as_bytes()),
         ["show", hex] => match show::unit_of(hex) {
             Some(unit) => write_out(show::answer(&unit).as_bytes()),
             None => fail("not pairs of hexadecimal digits"),
@@ -39,6 +48,10 @@ fn main() -> ExitCode {
         ["units-summary", numbers @ ..] => write_lines(units::summary, numbers),
         ["changed-records", numbers @ ..] => write_lines(changed_records::lines, numbers),
         ["definition-units", folder] => match definition_units::write(folder) {
+            Ok(counts) => write_out(counts.as_bytes()),
+            Err(error) => fail(&error.to_string()),
+        },
+        ["samples", folder] => match samples::write(folder) {
             Ok(counts) => write_out(counts.as_bytes()),
             Err(error) => fail(&error.to_string()),
         },

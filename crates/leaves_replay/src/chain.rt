@@ -1,18 +1,18 @@
 // Chains of steps, written one behind the other and read again: how many steps, the steps, the buffer before, the
 // buffer afterwards. A step has 9 bytes: step, width, value, number, place behind. A refused step leaves the place and
 // is not read.
-use crate::content::behind;
-use crate::content::byte_at;
 use crate::content::copy;
-use crate::content::first;
-use crate::content::four_bytes;
-use crate::content::two_bytes;
 use crate::reading::Expected;
 use crate::reading::is_step;
 use crate::writing::is_wrote;
 use crate::writing::write;
 use bit_reader::ReadPlace;
 use bit_writer::WritePlace;
+use replay_list::behind;
+use replay_list::byte_at;
+use replay_list::first;
+use replay_list::four_bytes;
+use replay_list::two_bytes;
 
 // The step at an index of the steps.
 fn step_at(steps: &[u8], i: u32) -> &[u8] {

@@ -5,32 +5,12 @@ mod reading;
 mod stuffed;
 mod writing;
 
-use content::behind;
-use content::two_bytes;
-use libc::STDIN_FILENO;
-use libc::STDOUT_FILENO;
+use replay_list::Next;
+use replay_list::Replayed;
+use replay_list::first;
 
 // More records than any list has.
 const MOST_RECORDS: u64 = 1_000_000;
-
-// What a record was.
-enum Record {
-    // a case whose answers are those recorded
-    Same,
-    Different,
-    // the end of a kind of cases, whose name was printed
-    Kind,
-    // the end of the list
-    End,
-}
-
-fn case(same: bool) -> Record {
-    if same {
-        Record::Same
-    } else {
-        Record::Different
-    }
-}
 
 // Whether the answers to a case are those recorded: tags 1 to 3 are stuffing, to 7 questions, from 11 on steps of the
 // reader, from 21 on steps of the writer, and 30 is a chain.
@@ -51,41 +31,15 @@ fn is_same(tag: u8, content: &[u8]) -> bool {
     chain::is_same(content, &mut out)
 }
 
-// Reads the content of a record and replays it.
-fn replay_content(tag: u8, content: &mut [u8]) -> Record {
-    let got = io::read_full(STDIN_FILENO, content);
-    if got < content.len() {
-        return Record::Different;
-    }
-    if tag == 0 {
-        io::write_all(STDOUT_FILENO, content);
-        return Record::Kind;
-    }
-    case(is_same(tag, content))
-}
-
 // Reads a record and replays it. One that is cut off or too long counts as a case that differs.
-fn replay_record() -> Record {
-    let mut head = [0u8; 3];
-    let got = io::read_full(STDIN_FILENO, &mut head);
-    if got == 0 {
-        return Record::End;
-    }
-    if got < 3 {
-        return Record::Different;
-    }
-    let length = two_bytes(behind(&head, 1)) as usize;
+fn replay_record(count: u64) -> Replayed {
     let mut content = [0u8; 4096];
-    if length > 4096 {
-        return Record::Different;
+    match replay_list::read_record(&mut content, count) {
+        Next::Case(tag, length) => replay_list::case(is_same(tag, first(&content, length))),
+        Next::Broken => Replayed::Different,
+        Next::Kind => Replayed::Kind,
+        Next::End => Replayed::End,
     }
-    replay_content(head[0], &mut content[0..length])
-}
-
-fn print_count(count: u64) {
-    io::write_all(STDOUT_FILENO, b" ");
-    io::print_decimal(STDOUT_FILENO, count);
-    io::write_all(STDOUT_FILENO, b"\n");
 }
 
 fn main() {
@@ -94,21 +48,19 @@ fn main() {
     let mut different = 0;
     while records < MOST_RECORDS {
         records += 1;
-        match replay_record() {
-            Record::Same => {
+        match replay_record(count) {
+            Replayed::Same => {
                 count += 1;
             }
-            Record::Different => {
+            Replayed::Different => {
                 count += 1;
                 different += 1;
             }
-            Record::Kind => {
-                print_count(count);
+            Replayed::Kind => {
                 count = 0;
             }
-            Record::End => {
-                io::write_all(STDOUT_FILENO, b"different");
-                print_count(different);
+            Replayed::End => {
+                replay_list::print_count(b"different", different);
                 return;
             }
         }

@@ -1,12 +1,12 @@
 // Cases of reading bits: place, width, number, value, place behind, and the bytes.
-use crate::content::behind;
-use crate::content::byte_at;
-use crate::content::eight_bytes;
-use crate::content::four_bytes;
 use bit_reader::Asked;
 use bit_reader::Moved;
 use bit_reader::Read;
 use bit_reader::ReadPlace;
+use replay_list::behind;
+use replay_list::byte_at;
+use replay_list::eight_bytes;
+use replay_list::four_bytes;
 
 const BIT_AT: u8 = 4;
 

@@ -1,9 +1,10 @@
 // Cases of stuffing. Adding and removing: number, bytes written, length of the input, the input, the output afterwards.
 // Measuring: the length, the input.
-use crate::content::behind;
-use crate::content::byte_at;
-use crate::content::first;
-use crate::content::two_bytes;
+use replay_list::behind;
+use replay_list::byte_at;
+use replay_list::first;
+use replay_list::pattern;
+use replay_list::two_bytes;
 use stuffing::Stuffed;
 
 const UNSTUFF: u8 = 1;
@@ -11,10 +12,6 @@ const UNSTUFF: u8 = 1;
 const RBSP_LENGTH: u8 = 2;
 
 // What an output holds beforehand.
-fn pattern(i: usize) -> u8 {
-    (255 - i % 256) as u8
-}
-
 fn fill(out: &mut [u8]) {
     let mut i = 0;
     while i < out.len() {

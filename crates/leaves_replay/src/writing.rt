@@ -1,12 +1,12 @@
 // Cases of writing bits: place, width, number, value, place behind, the buffer before, the buffer afterwards.
-use crate::content::behind;
-use crate::content::byte_at;
 use crate::content::copy;
-use crate::content::eight_bytes;
-use crate::content::first;
-use crate::content::four_bytes;
 use bit_writer::WritePlace;
 use bit_writer::Wrote;
+use replay_list::behind;
+use replay_list::byte_at;
+use replay_list::eight_bytes;
+use replay_list::first;
+use replay_list::four_bytes;
 
 // Steps of the writer; the trailing bits are the fifth.
 const BIT: u8 = 1;

@@ -1,6 +1,6 @@
 -- `leaves_replay::main` is safe and ends: each turn is one record of at most a million, and no count exceeds the records.
-use borrow.Author.Needs.{needs}
 use Prim.Native.Nat.{_≤_, _-_}
+use borrow.Author.Needs.{needs}
 use Rattle.leaves_replay.proofs.main.Statement.{statement}
 use Rattle.leaves_replay.proofs.main.Tie as tie
 
@@ -49,9 +49,6 @@ loop-again-2 c = search needs
 enum-told-3 : tie.Need-enum-told-3 Inv-loop μ-loop
 enum-told-3 c = search needs
 
-print-count-requires : tie.Need-print-count-requires Inv-loop μ-loop
-print-count-requires c κs = search needs
-
 loop-less-3 : tie.Need-loop-less-3 Inv-loop μ-loop
 loop-less-3 c = search needs
 
@@ -61,14 +58,11 @@ loop-again-3 c = search needs
 enum-told-4 : tie.Need-enum-told-4 Inv-loop μ-loop
 enum-told-4 c = search needs
 
-slice-aggregate-write-all : tie.Need-slice-aggregate-write-all Inv-loop μ-loop
-slice-aggregate-write-all c = search needs
+slice-aggregate-print-count : tie.Need-slice-aggregate-print-count Inv-loop μ-loop
+slice-aggregate-print-count c = search needs
 
-write-all-requires : tie.Need-write-all-requires Inv-loop μ-loop
-write-all-requires c κs = search needs
-
-print-count-requires-2 : tie.Need-print-count-requires-2 Inv-loop μ-loop
-print-count-requires-2 c κs = search needs
+print-count-requires : tie.Need-print-count-requires Inv-loop μ-loop
+print-count-requires c κs = search needs
 
 returns : tie.Need-returns Inv-loop μ-loop
 returns c = search needs
@@ -95,12 +89,10 @@ main-spec =
     loop-less-2
     loop-again-2
     enum-told-3
-    print-count-requires
     loop-less-3
     loop-again-3
     enum-told-4
-    slice-aggregate-write-all
-    write-all-requires
-    print-count-requires-2
+    slice-aggregate-print-count
+    print-count-requires
     returns
     returns-2)

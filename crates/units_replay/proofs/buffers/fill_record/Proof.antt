@@ -1,0 +1,61 @@
+-- `units_replay::buffers::fill_record` is safe and ends: the index stays within the buffer, whose length no store changes.
+use Prim.Native.Nat.{_≤_, _-_}
+use lib.ListN.{length, length-set}
+use native.Mathlib.Omega.{arith}
+use mathlib.Core.Path.{_≡_}
+use borrow.Author.Needs.{needs}
+use Rattle.units_replay.proofs.buffers.fill_record.Statement.{statement}
+use Rattle.units_replay.proofs.buffers.fill_record.Tie as tie
+
+abbrev Inv-loop : tie.InvT-loop
+Inv-loop record₀ i₀ «record» i = (i ≤ length «record») × (length «record» ≡ length record₀)
+
+abbrev μ-loop : tie.MeasureT-loop
+μ-loop record₀ i₀ «record» i = length «record» - i
+
+loop-holds : tie.Need-loop-holds Inv-loop μ-loop
+loop-holds c = search needs
+
+pattern-requires : tie.Need-pattern-requires Inv-loop μ-loop
+pattern-requires c κs = search needs
+
+wide-requires : tie.Need-wide-requires Inv-loop μ-loop
+wide-requires c κs = search needs
+
+mul-record : tie.Need-mul-record Inv-loop μ-loop
+mul-record c = search needs
+
+slice-write-record : tie.Need-slice-write-record Inv-loop μ-loop
+slice-write-record c = search needs
+
+add-i : tie.Need-add-i Inv-loop μ-loop
+add-i c = search needs
+
+loop-less : tie.Need-loop-less Inv-loop μ-loop
+loop-less c = simp length-set (omega arith)
+
+loop-again : tie.Need-loop-again Inv-loop μ-loop
+loop-again c = simp length-set (search needs)
+
+same-length : tie.Need-same-length Inv-loop μ-loop
+same-length c = search needs
+
+returns : tie.Need-returns Inv-loop μ-loop
+returns c = search needs
+
+pub fill-record-spec : {M : Type 1} → statement M
+fill-record-spec =
+    tie.close
+    (tie.spec
+    Inv-loop
+    μ-loop
+    loop-holds
+    pattern-requires
+    wide-requires
+    mul-record
+    slice-write-record
+    add-i
+    loop-less
+    loop-again
+    same-length
+    returns)

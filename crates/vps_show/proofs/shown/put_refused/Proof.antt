@@ -1,0 +1,40 @@
+-- `put_refused` meets its contract.
+use Rattle.vps_show.specs.Text.{puts-then}
+use Rattle.vps_show.specs.Shown.{refusedText}
+use borrow.Author.Needs.{needs}
+use Rattle.vps_show.proofs.shown.put_refused.Statement.{statement}
+use Rattle.vps_show.proofs.shown.put_refused.Tie as tie
+
+slice-aggregate-put : tie.Need-slice-aggregate-put
+slice-aggregate-put c = search needs
+
+put-requires : tie.Need-put-requires
+put-requires c κs = search needs
+
+put-number-requires : tie.Need-put-number-requires
+put-number-requires c κs = search needs
+
+slice-aggregate-put-2 : tie.Need-slice-aggregate-put-2
+slice-aggregate-put-2 c = search needs
+
+put-requires-2 : tie.Need-put-requires-2
+put-requires-2 c κs = search needs
+
+same-length : tie.Need-same-length
+same-length c = search needs
+
+returns : tie.Need-returns
+unfolding refusedText
+returns c = puts-then (puts-then (c .before .before .before .before .before .before .before .before .before .before .before .put .ensures) (c .before .before .before .before .before .before .before .put-number .ensures)) (c .before .before .put2 .ensures)
+
+pub put-refused-spec : {M : Type 1} → statement M
+put-refused-spec =
+    tie.close
+    (tie.spec
+    slice-aggregate-put
+    put-requires
+    put-number-requires
+    slice-aggregate-put-2
+    put-requires-2
+    same-length
+    returns)

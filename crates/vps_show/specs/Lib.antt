@@ -1,0 +1,5 @@
+pub mod Text
+pub mod Decimal
+pub mod Starts
+pub mod Shown
+pub mod Cases
