@@ -5,6 +5,7 @@ ghost use lib.ListN.{set, getD};
 ghost use lib.Dec.{ltb, eqb};
 ghost use Rattle.vps_definition.specs.OutputLayerSets.{countBelow, withReached};
 ghost use Rattle.layer_sets.specs.Masks.{maskOf, bitOf, bitAt};
+ghost use Rattle.layer_sets.specs.Flags.{withFlag};
 
 // Whether layer j is in the mask; no mask has a layer from 64 on.
 pub fn has(mask: u64, j: usize) -> bool
@@ -22,6 +23,16 @@ pub fn with(mask: u64, j: usize) -> u64
 {
     if j < 64 {
         return mask | (1 << j);
+    }
+    mask
+}
+
+// A mask with layer j where its flag is 1.
+pub fn with_flag(mask: u64, v: u32, j: usize) -> u64
+    ensures { λ r. ⌜ r ≡ withFlag mask v j ⌝ }
+{
+    if v == 1 {
+        return with(mask, j);
     }
     mask
 }

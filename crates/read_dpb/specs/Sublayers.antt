@@ -16,7 +16,7 @@ use Rattle.read_steps.specs.Meets.{Yields}
 use Rattle.read_steps.specs.Fits.{Fits, limit}
 use Rattle.vps_laws.specs.Loops.{loop-turn}
 use Rattle.read_steps.specs.Laws.{yields-then}
-use Rattle.read_entries.specs.MaxTid.{max-tid}
+use Rattle.vps_entries.specs.MaxTid.{max-tid}
 use Rattle.read_dpb.specs.Grid.{rows, rows-all, triple, triples, length-triples, triples-set}
 
 -- three numbers each

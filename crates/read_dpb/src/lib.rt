@@ -112,7 +112,7 @@ pub fn read_dpb_slot(
         max_sublayers_minus1,
         DPB_MAX_TID,
     );
-    let turns = read_entries::turns(flag, max_tid.v);
+    let turns = vps_entries::turns(flag, max_tid.v);
     parse_dpb_parameters(bytes, rec, max_tid.next, turns)
 }
 

@@ -2,28 +2,11 @@
 ghost use mathlib.Core.Path.{_≡_};
 ghost use Prim.Native.Nat.{ℕ};
 ghost use Rattle.vps_definition.specs.Words.{loop};
-ghost use Rattle.vps_definition.specs.DpbParameters.{sublayers, index-coded, index-inferred, index};
+ghost use Rattle.vps_definition.specs.DpbParameters.{index};
 ghost use Rattle.read_steps.specs.Meets.{Meets};
-ghost use Rattle.read_entries.specs.MaxTid.{max-tid};
+ghost use Rattle.vps_entries.specs.MaxTid.{max-tid};
 use read_steps::Cursor;
 use read_steps::Took;
-
-// Whether an index into `size` entries is coded, where `count` of them are kept.
-fn is_coded(size: u32, count: u32) -> bool
-    ensures { λ r. ⌜ r ≡ index-coded size count ⌝ }
-{
-    1 < size && size != count
-}
-
-// What it is otherwise: 0 for one entry, else the i-th is i.
-fn inferred_index(size: u32, i: u32) -> u32
-    ensures { λ r. ⌜ r ≡ index-inferred size i ⌝ }
-{
-    if size == 1 {
-        return 0;
-    }
-    i
-}
 
 // The i-th of `count` indices into `size` entries; refused with a number, not 0, unless it lies below.
 pub fn read_index(
@@ -41,8 +24,8 @@ pub fn read_index(
         bytes,
         rec,
         c,
-        is_coded(size, count),
-        inferred_index(size, i),
+        vps_entries::is_index_coded(size, count),
+        vps_entries::inferred_index(size, i),
     );
     read_steps::hold(v.next, v.v < size, number)
 }
@@ -93,14 +76,4 @@ pub fn read_max_tid(
         v: t.v,
         next: read_steps::hold(t.next, t.v <= max_sublayers_minus1, number),
     }
-}
-
-// How many sublayers an entry has: one for each up to the max tid where the flag is 1, else one.
-pub fn turns(flag: u32, max_tid: u32) -> u64
-    ensures { λ r. ⌜ r ≡ sublayers flag «max_tid» ⌝ }
-{
-    if flag == 0 {
-        return 1;
-    }
-    max_tid as u64 + 1
 }

@@ -12,11 +12,12 @@ ghost use Rattle.vps_definition.specs.Vps.{direct-reference, dependent-layer, i
 ghost use Rattle.vps_definition.specs.OutputLayerSets.{digit};
 ghost use Rattle.vps_definition.specs.OutputLayerSets.Sets.{each-layer, up-to};
 ghost use Rattle.read_steps.specs.Meets.{Meets};
+ghost use Rattle.layer_sets.specs.Counted.{Known};
 ghost use Rattle.read_layers.specs.Headers.{HeaderMet, headerOf};
-ghost use Rattle.read_layers.specs.Flags.{withFlag, FlagsMet};
+ghost use Rattle.read_layers.specs.Flags.{FlagsMet};
 ghost use Rattle.read_layers.specs.Layers.{LayerMet, LayersMet};
 ghost use Rattle.read_layers.specs.Rows.{RowMet, RowsMet};
-ghost use Rattle.read_layers.specs.Sets.{Known, SetsMet, SectionMet};
+ghost use Rattle.read_layers.specs.Sets.{SetsMet, SectionMet};
 use read_steps::Cursor;
 use read_steps::Took;
 use refusals::LAYER_IDS_NOT_RISING;
@@ -111,16 +112,6 @@ struct Flags {
     next: Cursor,
 }
 
-// A mask with layer j where its flag is 1.
-fn with_flag(mask: u64, v: u32, j: usize) -> u64
-    ensures { λ r. ⌜ r ≡ withFlag mask v j ⌝ }
-{
-    if v == 1 {
-        return layer_sets::with(mask, j);
-    }
-    mask
-}
-
 // Whether a layer refers to another directly, and the sublayers that it then may use.
 fn read_direct_reference(
     bytes: &[u8],
@@ -157,7 +148,7 @@ fn read_direct_references(
             return Flags { mask, next };
         }
         let flag = read_direct_reference(bytes, rec, next, present, sublayers);
-        mask = with_flag(mask, flag.v, j);
+        mask = layer_sets::with_flag(mask, flag.v, j);
         next = flag.next;
         j += 1;
     }
@@ -261,7 +252,7 @@ fn read_output_flags(bytes: &[u8], rec: &mut [u32], c: Cursor, n: usize) -> Flag
             return Flags { mask, next };
         }
         let flag = take_within(bytes, rec, next, 1, 1);
-        mask = with_flag(mask, flag.v, j);
+        mask = layer_sets::with_flag(mask, flag.v, j);
         next = flag.next;
         j += 1;
     }

@@ -1,13 +1,10 @@
 // Reads timing and HRD parameters: general_timing_hrd_parameters(), ols_timing_hrd_parameters() and the timing section of the VPS.
-ghost use mathlib.Core.Path.{_≡_};
-ghost use mathlib.Core.Bool.{_&&_};
-ghost use lib.Dec.{ltb, eqb};
-ghost use Rattle.refusals.specs.Number.{timing-max-tid, timing-index};
-ghost use Rattle.vps_definition.specs.Words.{when, loop, repeat};
-ghost use Rattle.vps_definition.specs.DpbParameters.{per-sublayer, index};
-ghost use Rattle.vps_definition.specs.TimingHrd.{hrd-present, general-timing-hrd, du-values, schedule, sublayer-hrd, timing-sublayer, timing-section};
+ghost use Rattle.refusals.specs.Number.{timing-max-tid};
+ghost use Rattle.vps_definition.specs.Words.{when, repeat};
+ghost use Rattle.vps_definition.specs.DpbParameters.{per-sublayer};
+ghost use Rattle.vps_definition.specs.TimingHrd.{general-timing-hrd, du-values, schedule, sublayer-hrd, timing-sublayer, timing-section};
 ghost use Rattle.read_steps.specs.Meets.{Meets};
-ghost use Rattle.read_timing.specs.Hrd.{hrd-of, hrd-scales};
+ghost use Rattle.vps_entries.specs.Hrd.{hrd-of, hrd-scales};
 use read_steps::Cursor;
 use refusals::ELEMENTAL_DURATION;
 use refusals::SCHEDULE_COUNT;
@@ -15,33 +12,12 @@ use refusals::TIMING_ENTRIES;
 use refusals::TIMING_INDEX;
 use refusals::TIMING_MAX_TID;
 use refusals::TIMING_ZERO;
+use vps_entries::Hrd;
 
-// What the schedules go by: the flags of general_timing_hrd_parameters() and its schedule count.
-pub struct Hrd {
-    pub nal: u32,
-    pub vcl: u32,
-    pub du: u32,
-    pub cpb_cnt_minus1: u32,
-}
-
-// That, and the cursor behind it.
+// What the schedules go by, and the cursor behind it.
 pub struct TookHrd {
     pub hrd: Hrd,
     pub next: Cursor,
-}
-
-// Whether one of two HRD flags is set.
-fn is_hrd_present(nal: u32, vcl: u32) -> bool
-    ensures { λ r. ⌜ r ≡ hrd-present nal vcl ⌝ }
-{
-    nal == 1 || vcl == 1
-}
-
-// Whether both the units and the scale are above 0.
-fn are_units_set(units: u32, scale: u32) -> bool
-    ensures { λ r. ⌜ r ≡ (ltb 0 units && ltb 0 scale) ⌝ }
-{
-    0 < units && 0 < scale
 }
 
 // general_timing_hrd_parameters() behind its check of the units.
@@ -82,8 +58,19 @@ pub fn parse_general_timing_hrd(bytes: &[u8], rec: &mut [u32], c: Cursor) -> Too
     let scale = read_steps::take(bytes, rec, units.next, 32);
     let nal = read_steps::take(bytes, rec, scale.next, 1);
     let vcl = read_steps::take(bytes, rec, nal.next, 1);
-    let held = read_steps::hold(vcl.next, are_units_set(units.v, scale.v), TIMING_ZERO);
-    read_hrd_scales(bytes, rec, held, is_hrd_present(nal.v, vcl.v), nal.v, vcl.v)
+    let held = read_steps::hold(
+        vcl.next,
+        vps_entries::are_units_set(units.v, scale.v),
+        TIMING_ZERO,
+    );
+    read_hrd_scales(
+        bytes,
+        rec,
+        held,
+        vps_entries::is_hrd_present(nal.v, vcl.v),
+        nal.v,
+        vcl.v,
+    )
 }
 
 // The values of a schedule's decoding units, where the flag is set.
@@ -126,16 +113,6 @@ pub fn parse_sublayer_hrd(bytes: &[u8], rec: &mut [u32], c: Cursor, hrd: Hrd) ->
     at
 }
 
-// Whether the low delay flag is coded.
-fn is_low_delay_coded(within: u32, present: bool, count_minus1: u32) -> bool
-    ensures { λ r. ⌜ r ≡ (eqb within 0 && present && eqb «count_minus1» 0) ⌝ }
-{
-    if within != 0 {
-        return false;
-    }
-    present && count_minus1 == 0
-}
-
 // sublayer_hrd_parameters() where a flag is set.
 fn read_sublayer_hrd_if(bytes: &[u8], rec: &mut [u32], c: Cursor, flag: u32, hrd: Hrd) -> Cursor
     ensures { λ r. ⌜ Meets (when flag (sublayer-hrd (hrd-of hrd))) (now (bytes .entry)) c tt r (now (rec .entry)) (now (rec .exit)) ⌝ }
@@ -154,9 +131,9 @@ pub fn parse_timing_sublayer(bytes: &[u8], rec: &mut [u32], c: Cursor, hrd: Hrd)
     let within = read_steps::take_if(bytes, rec, general.next, general.v == 0, 1, 1);
     let duration = read_steps::take_code_if(bytes, rec, within.next, within.v == 1, 0);
     let held = read_steps::hold(duration.next, duration.v <= 2047, ELEMENTAL_DURATION);
-    let coded = is_low_delay_coded(
+    let coded = vps_entries::is_low_delay_coded(
         within.v,
-        is_hrd_present(hrd.nal, hrd.vcl),
+        vps_entries::is_hrd_present(hrd.nal, hrd.vcl),
         hrd.cpb_cnt_minus1,
     );
     let delay = read_steps::take_if(bytes, rec, held, coded, 1, 0);
@@ -206,7 +183,7 @@ fn read_timing_entry(
         max_sublayers_minus1,
         TIMING_MAX_TID,
     );
-    let turns = read_entries::turns(flag, tid.v);
+    let turns = vps_entries::turns(flag, tid.v);
     parse_ols_timing_hrd(bytes, rec, tid.next, turns, hrd)
 }
 

@@ -23,18 +23,15 @@ pub struct Ended {
     pub len: usize,
 }
 
-// A number of the record, or 0 where it has no such place.
-fn number_at(rec: &[u32], at: usize) -> u32
-    ensures { λ r. ⌜ r ≡ getD (now (rec .entry)) at 0 ⌝ }
-{
-    if at < rec.len() { rec[at] } else { 0 }
-}
-
 // How many numbers stand from a place on.
 fn left_from(rec: &[u32], from: usize) -> usize
     ensures { λ r. ⌜ r ≡ length (now (rec .entry)) - from ⌝ }
 {
-    if rec.len() < from { 0 } else { rec.len() - from }
+    if rec.len() < from {
+        0
+    } else {
+        rec.len() - from
+    }
 }
 
 // Whether the record has these numbers from a place on.
@@ -46,7 +43,7 @@ fn has_numbers(rec: &[u32], from: usize, list: &[usize]) -> bool
     }
     let mut i = 0;
     while i < list.len() {
-        if number_at(rec, from + i) as usize != list[i] {
+        if write_steps::number_at(rec, from + i) as usize != list[i] {
             return false;
         }
         i += 1;
@@ -80,7 +77,7 @@ fn has_end(rec: &[u32], c: usize, flag: u32, general: &[usize], trailer: &[usize
     if left < 9 {
         return false;
     }
-    let count = number_at(rec, c) as usize;
+    let count = write_steps::number_at(rec, c) as usize;
     if left - 9 != count {
         return false;
     }
@@ -117,7 +114,7 @@ fn put_flags(rec: &[u32], out: &mut [u8], p: Place, count: u32) -> Place
 fn write_extension(rec: &[u32], out: &mut [u8], p: Place) -> Place
     ensures { λ r. ⌜ Does (extension-table (countIn (now (rec .entry)) (p .c))) (now (rec .entry)) p tt r (now (out .entry)) (now (out .exit)) ⌝ }
 {
-    let count = number_at(rec, p.c);
+    let count = write_steps::number_at(rec, p.c);
     let kept = write_steps::keep(rec, p, count);
     put_flags(rec, out, kept.next, count)
 }

@@ -1,12 +1,12 @@
 -- Code over tables that mark sections: where each section starts is the place's number at its mark.
 use Prim.Native.Nat.{ℕ, _+_}
-use mathlib.Core.Path.{_≡_, sym, ap, _∙_}
+use mathlib.Core.Path.{_≡_, refl, sym, ap, _∙_, subst}
 use mathlib.Core.List.{List, [], _∷_, _++_}
-use mathlib.Core.Bool.{false}
+use mathlib.Core.Bool.{Bool, true, false}
 use native.Mathlib.Nat.{add-zero}
 use lib.ListN.{length, drop}
 use Rattle.vps_definition.specs.Syntax.{Syntax, _>>=_, Token, numbers, starts, putting, emit}
-use Rattle.vps_definition.specs.Syntax.Syntax.{mark}
+use Rattle.vps_definition.specs.Syntax.Syntax.{mark, test}
 use Rattle.vps_definition.specs.Syntax.Token.{section}
 use Rattle.vps_definition.specs.Syntax.Written.{wrote}
 use Rattle.vps_laws.specs.Inversion.{putting-wrote}
@@ -14,7 +14,7 @@ use Rattle.vps_laws.specs.Marks.{starts-append, starts-none}
 use Rattle.vps_laws.specs.Plain.{Plain}
 use Rattle.write_steps.specs.declared.Place.{Place}
 use Rattle.write_steps.specs.Does.{Ready, Does}
-use Rattle.write_steps.specs.Laws.{keeps-written, fails-put, both-written, does-then, goes-on}
+use Rattle.write_steps.specs.Laws.{keeps-written, fails-put, both-written, does-then, does-yes, does-no, goes-on}
 
 -- the code does the table, and where that is written its sections start at these numbers
 pub record Marked {A : Type 0} (m : Syntax A) (rec : List ℕ) (p : Place) (a : A) (p′ : Place) (out out′ l : List ℕ) : Type 0 where
@@ -65,3 +65,16 @@ marked-then {A} {B} {rec} {p} {a} {p₁} {b} {p₂} {out} {out₁} {out₂} {l�
         ap (starts (p .c)) (same-tokens (sym e ∙ both-written m f W U)) ∙ starts-append (p .c) (W .tokens) (U .tokens)
         ∙ (λ i. M .marks R g (W .is) i ++ starts (sym (W .moved) i) (U .tokens))
         ∙ ap (λ (x : List ℕ). l₁ ++ x) (N .marks (W .ready) h (U .is))
+
+-- the same table
+pub marked-as : {A : Type 0} {m m′ : Syntax A} {rec : List ℕ} {p : Place} {a : A} {p′ : Place} {out out′ l : List ℕ} → m ≡ m′ → Marked m rec p a p′ out out′ l → Marked m′ rec p a p′ out out′ l
+marked-as {rec = rec} {p = p} {a = a} {p′ = p′} {out = out} {out′ = out′} {l = l} e M = subst (λ (x : Syntax _). Marked x rec p a p′ out out′ l) e M
+
+-- a condition that is known
+pub marked-yes : {A : Type 0} {b : Bool} {m n : Syntax A} {rec : List ℕ} {p : Place} {a : A} {p′ : Place} {out out′ l : List ℕ} → b ≡ true → Marked m rec p a p′ out out′ l → Marked (test b m n) rec p a p′ out out′ l
+unfolding emit
+marked-yes {m = m} {n = n} e M = marked-as (λ i. test (sym e i) m n) (record { does = does-yes refl (M .does); marks = λ R h w. M .marks R h w })
+
+pub marked-no : {A : Type 0} {b : Bool} {m n : Syntax A} {rec : List ℕ} {p : Place} {a : A} {p′ : Place} {out out′ l : List ℕ} → b ≡ false → Marked n rec p a p′ out out′ l → Marked (test b m n) rec p a p′ out out′ l
+unfolding emit
+marked-no {m = m} {n = n} e M = marked-as (λ i. test (sym e i) m n) (record { does = does-no refl (M .does); marks = λ R h w. M .marks R h w })

@@ -4,7 +4,7 @@ ghost use mathlib.Core.List.{List, []};
 ghost use mathlib.Core.Bool.{true};
 ghost use Prim.Native.Nat.{ℕ, _<_, _^_};
 ghost use lib.Dec.{ltb};
-ghost use lib.ListN.{length, drop};
+ghost use lib.ListN.{length, drop, getD};
 ghost use Rattle.bits.specs.Bits.{fieldWidth, bitsOf};
 ghost use Rattle.bits.specs.Code.{codeOf};
 ghost use Rattle.bit_sink.specs.Holds.{limit};
@@ -307,4 +307,11 @@ pub fn align(out: &mut [u8], p: Place) -> Place
         sink: bit_sink::put_zeros_to_boundary(out, sink),
         bad: false,
     }
+}
+
+// Number i of the record; 0 past the end.
+pub fn number_at(rec: &[u32], i: usize) -> u32
+    ensures { λ r. ⌜ r ≡ getD (now (rec .entry)) i 0 ⌝ }
+{
+    if i < rec.len() { rec[i] } else { 0 }
 }

@@ -6,7 +6,7 @@ use native.Mathlib.Omega.{arith}
 use Rattle.vps_definition.specs.Words.{repeat}
 use Rattle.vps_definition.specs.DpbParameters.{dpb-sublayer}
 use Rattle.read_steps.specs.Laws.{meets-as, meets-known}
-use Rattle.read_entries.specs.MaxTid.{per-sublayer-is}
+use Rattle.vps_entries.specs.MaxTid.{per-sublayer-is}
 use Rattle.read_dpb.specs.Grid.{rows}
 use Rattle.read_dpb.specs.Sublayers.{tid-below, rows-enough}
 use Rattle.read_dpb.proofs.read_dpb_slot.Statement.{statement}

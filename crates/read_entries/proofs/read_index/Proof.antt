@@ -6,8 +6,8 @@ use Rattle.read_steps.specs.Laws.{meets-as, meets-then}
 use Rattle.read_entries.proofs.read_index.Statement.{statement}
 use Rattle.read_entries.proofs.read_index.Tie as tie
 
-is-coded-requires : tie.Need-is-coded-requires
-is-coded-requires c κs = search needs
+is-index-coded-requires : tie.Need-is-index-coded-requires
+is-index-coded-requires c κs = search needs
 
 inferred-index-requires : tie.Need-inferred-index-requires
 inferred-index-requires c κs = search needs
@@ -25,14 +25,14 @@ returns : tie.Need-returns
 unfolding index
 returns c ne =
     meets-then _ _
-    (meets-as (λ j. ue-if (c .before .before .before .before .before .before .is-coded .ensures j) (c .before .before .before .before .before .inferred-index .ensures j)) (c .before .before .before .before .take-code-if .ensures))
+    (meets-as (λ j. ue-if (c .before .before .before .before .before .before .is-index-coded .ensures j) (c .before .before .before .before .before .inferred-index .ensures j)) (c .before .before .before .before .take-code-if .ensures))
     (c .hold .ensures _ _ ne)
 
 pub read-index-spec : {M : Type 1} → statement M
 read-index-spec =
     tie.close
     (tie.spec
-    is-coded-requires
+    is-index-coded-requires
     inferred-index-requires
     take-code-if-requires
     hold-requires

@@ -1,7 +1,7 @@
 -- The table's two words, in its order.
 use borrow.Author.Needs.{needs}
 use Rattle.read_steps.specs.Laws.{meets-then, meets-done}
-use Rattle.read_entries.specs.MaxTid.{max-tid}
+use Rattle.vps_entries.specs.MaxTid.{max-tid}
 use Rattle.read_entries.proofs.read_max_tid.Statement.{statement}
 use Rattle.read_entries.proofs.read_max_tid.Tie as tie
 

@@ -2,7 +2,7 @@
 use Rattle.vps_definition.specs.OutputLayerSets.Sets.{chosen}
 use Rattle.vps_definition.specs.Vps.{rows-section}
 use Rattle.read_steps.specs.Laws.{meets-then, meets-done}
-use Rattle.read_layers.specs.Sets.{counted-chosen}
+use Rattle.layer_sets.specs.Counted.{counted-chosen}
 use borrow.Author.Needs.{needs}
 use Rattle.read_layers.proofs.read_chosen.Statement.{statement}
 use Rattle.read_layers.proofs.read_chosen.Tie as tie
@@ -23,7 +23,7 @@ returns c refs K =
     record {
       sets = chosen (R .rows);
       meets = meets-then _ _ (c .before .before .before .before .before .before .take-count .ensures .1) (meets-then _ _ (R .meets) meets-done);
-      counted = counted-chosen _ K R;
+      counted = counted-chosen _ K (R .held);
     }
 
 pub read-chosen-spec : {M : Type 1} → statement M

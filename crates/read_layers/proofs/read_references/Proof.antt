@@ -4,7 +4,7 @@ use mathlib.Core.List.{[]}
 use borrow.Author.Tests.{eq-eqb, ne-eqb}
 use Rattle.vps_definition.specs.Vps.{independent-layer}
 use Rattle.read_steps.specs.Laws.{meets-then, meets-done, meets-yes, meets-no}
-use Rattle.read_layers.specs.Flags.{held-none}
+use Rattle.layer_sets.specs.Flags.{held-none}
 use borrow.Author.Needs.{needs}
 use Rattle.read_layers.proofs.read_references.Statement.{statement}
 use Rattle.read_layers.proofs.read_references.Tie as tie

@@ -7,7 +7,8 @@ use lib.Dec.{ltb}
 use lib.ListN.{length}
 use Rattle.vps_definition.specs.OutputLayerSets.{digit, countBelow}
 use Rattle.layer_sets.specs.Masks.{bitOf}
-use Rattle.read_layers.specs.Rows.{RowsMet, digit-most, rows-begin, rows-turn, rows-end, rows-break}
+use Rattle.layer_sets.specs.Rows.{digit-most}
+use Rattle.read_layers.specs.Rows.{RowsMet, rows-begin, rows-turn, rows-end, rows-break}
 use borrow.Author.Needs.{needs}
 use Rattle.read_layers.proofs.read_rows.Statement.{statement}
 use Rattle.read_layers.proofs.read_rows.Tie as tie

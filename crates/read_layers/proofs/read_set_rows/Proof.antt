@@ -3,7 +3,8 @@ use mathlib.Core.Path.{sym, subst}
 use borrow.Author.Tests.{eq-eqb, ne-eqb}
 use Rattle.vps_definition.specs.OutputLayerSets.Sets.{each-layer, up-to}
 use Rattle.read_steps.specs.Laws.{meets-yes, meets-no}
-use Rattle.read_layers.specs.Sets.{Counted, counted-each-layer, counted-up-to, meets-no-rows}
+use Rattle.layer_sets.specs.Counted.{Counted, counted-each-layer, counted-up-to}
+use Rattle.read_layers.specs.Sets.{meets-no-rows}
 use borrow.Author.Needs.{needs}
 use Rattle.read_layers.proofs.read_set_rows.Statement.{statement}
 use Rattle.read_layers.proofs.read_set_rows.Tie as tie

@@ -4,7 +4,7 @@ use Rattle.refusals.specs.Number.{timing-zero}
 use Rattle.vps_definition.specs.Words.{check}
 use Rattle.vps_definition.specs.TimingHrd.{general-timing-hrd}
 use Rattle.read_steps.specs.Laws.{meets-as, meets-then}
-use Rattle.read_timing.specs.Hrd.{hrd-scales}
+use Rattle.vps_entries.specs.Hrd.{hrd-scales}
 use borrow.Author.Needs.{needs}
 use Rattle.read_timing.proofs.parse_general_timing_hrd.Statement.{statement}
 use Rattle.read_timing.proofs.parse_general_timing_hrd.Tie as tie

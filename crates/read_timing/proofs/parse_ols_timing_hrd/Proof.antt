@@ -2,7 +2,7 @@
 use Prim.Native.Nat.{_-_}
 use Rattle.vps_definition.specs.Words.{repeat}
 use Rattle.vps_definition.specs.TimingHrd.{timing-sublayer}
-use Rattle.read_timing.specs.Hrd.{hrd-of}
+use Rattle.vps_entries.specs.Hrd.{hrd-of}
 use Rattle.read_steps.specs.Turns.{Turned, turned-none, turned-more, turned-stop, turned-all}
 use borrow.Author.Needs.{needs}
 use Rattle.read_timing.proofs.parse_ols_timing_hrd.Statement.{statement}

@@ -1,7 +1,7 @@
 -- Each word in the table's order, and the four numbers at its end.
 use native.Mathlib.Omega.{arith}
 use Rattle.read_steps.specs.Laws.{meets-then, meets-done}
-use Rattle.read_timing.specs.Hrd.{hrd-scales}
+use Rattle.vps_entries.specs.Hrd.{hrd-scales}
 use borrow.Author.Needs.{needs}
 use Rattle.read_timing.proofs.read_hrd_scales.Statement.{statement}
 use Rattle.read_timing.proofs.read_hrd_scales.Tie as tie

@@ -4,8 +4,8 @@ use native.Mathlib.Omega.{arith}
 use Rattle.vps_definition.specs.Words.{repeat}
 use Rattle.vps_definition.specs.TimingHrd.{timing-sublayer}
 use Rattle.read_steps.specs.Laws.{meets-as, meets-then}
-use Rattle.read_entries.specs.MaxTid.{per-sublayer-is}
-use Rattle.read_timing.specs.Hrd.{hrd-of}
+use Rattle.vps_entries.specs.MaxTid.{per-sublayer-is}
+use Rattle.vps_entries.specs.Hrd.{hrd-of}
 use borrow.Author.Needs.{needs}
 use Rattle.read_timing.proofs.read_timing_entry.Statement.{statement}
 use Rattle.read_timing.proofs.read_timing_entry.Tie as tie

@@ -1,9 +1,9 @@
 -- Past the end there is no number, and the list's default is 0.
-use lib.ListN.{List·getD-eq-default}
-use mathlib.Core.Path.{sym}
 use borrow.Author.Needs.{needs}
-use Rattle.write_end.proofs.number_at.Statement.{statement}
-use Rattle.write_end.proofs.number_at.Tie as tie
+use mathlib.Core.Path.{sym}
+use lib.ListN.{List·getD-eq-default}
+use Rattle.write_steps.proofs.number_at.Statement.{statement}
+use Rattle.write_steps.proofs.number_at.Tie as tie
 
 mul-result : tie.Need-mul-result
 mul-result c = search needs

@@ -1,0 +1,2 @@
+pub mod MaxTid
+pub mod Hrd

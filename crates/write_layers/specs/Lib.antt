@@ -1,0 +1,5 @@
+pub mod Headers
+pub mod Flags
+pub mod Layers
+pub mod Rows
+pub mod Sets
