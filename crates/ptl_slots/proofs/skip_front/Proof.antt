@@ -1,0 +1,25 @@
+-- `skip_front` meets its contract: two numbers fewer where the profile is absent.
+use Rattle.ptl_slots.specs.Slot.{frontOf}
+use borrow.Author.Tests.{eq-eqb, ne-eqb}
+use lib.ListN.{drop}
+use mathlib.Core.Bool.{Bool}
+use mathlib.Core.Path.{sym, ap, _∙_}
+use borrow.Author.Needs.{needs}
+use Rattle.ptl_slots.proofs.skip_front.Statement.{statement}
+use Rattle.ptl_slots.proofs.skip_front.Tie as tie
+
+skip-numbers-requires : tie.Need-skip-numbers-requires
+skip-numbers-requires c κs = search needs
+
+returns : tie.Need-returns
+returns c = c .skip-numbers .ensures ∙ ap (λ (b : Bool). drop (frontOf b) (drop (c .before .before .before .args .at) (c .before .before .before .args .rec .now))) (sym (eq-eqb _ _ (c .before .if1 .taken)))
+
+skip-numbers-requires-2 : tie.Need-skip-numbers-requires-2
+skip-numbers-requires-2 c κs = search needs
+
+returns-2 : tie.Need-returns-2
+returns-2 c = c .skip-numbers2 .ensures ∙ ap (λ (b : Bool). drop (frontOf b) (drop (c .before .before .before .args .at) (c .before .before .before .args .rec .now))) (sym (ne-eqb _ _ (c .before .if1 .left)))
+
+pub skip-front-spec : {M : Type 1} → statement M
+skip-front-spec =
+    tie.close (tie.spec skip-numbers-requires returns skip-numbers-requires-2 returns-2)

@@ -1,0 +1,3 @@
+pub mod Standing
+pub mod Skims
+pub mod Slot
