@@ -18,6 +18,19 @@ pub enum Mode {
     TwoInferred,
 }
 
+impl Mode {
+    pub fn name(self) -> &'static str {
+        match self {
+            Mode::OneLayer => "one layer",
+            Mode::EachLayer => "each layer a set",
+            Mode::Zero => "mode 0",
+            Mode::One => "mode 1",
+            Mode::Two => "mode 2",
+            Mode::TwoInferred => "mode 2 inferred",
+        }
+    }
+}
+
 pub const MODES: [Mode; 6] = [Mode::OneLayer, Mode::EachLayer, Mode::Zero, Mode::One, Mode::Two, Mode::TwoInferred];
 
 // The mode of an accepted unit, by its record.
@@ -372,14 +385,7 @@ fn sets(v: &VvcVps) -> (usize, usize) {
 
 // What an accepted VPS shows, by name: its mode and every optional part that it has.
 pub fn shapes(v: &VvcVps, record: &[u32]) -> Vec<&'static str> {
-    let mut shapes = vec![match mode_of(record) {
-        Mode::OneLayer => "one layer",
-        Mode::EachLayer => "each layer a set",
-        Mode::Zero => "mode 0",
-        Mode::One => "mode 1",
-        Mode::Two => "mode 2",
-        Mode::TwoInferred => "mode 2 inferred",
-    }];
+    let mut shapes = vec![mode_of(record).name()];
     let mut add = |shown: bool, name: &'static str| {
         if shown {
             shapes.push(name);

@@ -4,7 +4,7 @@ use crate::definition_units::{Answer, answer_of};
 use crate::list::List;
 use crate::record::{Reading, read, record_of};
 use crate::show::unit_of;
-use crate::structures::{Mode, mode_of, shapes};
+use crate::structures::{mode_of, shapes};
 use crate::units::{Unit, Units};
 use bitstream::h266::parse_vps;
 use bitstream::nal::ebsp_to_rbsp;
@@ -71,19 +71,10 @@ pub fn shapes_shown() -> String {
 }
 
 fn name(answer: &Answer) -> String {
-    let mode = match answer {
-        Answer::Refused(number) => return format!("refused {number}"),
-        Answer::Accepted(mode) => mode,
-    };
-    match mode {
-        Mode::OneLayer => "one layer",
-        Mode::EachLayer => "each layer a set",
-        Mode::Zero => "mode 0",
-        Mode::One => "mode 1",
-        Mode::Two => "mode 2",
-        Mode::TwoInferred => "mode 2 inferred",
+    match answer {
+        Answer::Refused(number) => format!("refused {number}"),
+        Answer::Accepted(mode) => mode.name().to_string(),
     }
-    .to_string()
 }
 
 // ── Cases ───────────────────────────────────────────────────────────────
