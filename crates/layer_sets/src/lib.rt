@@ -8,7 +8,7 @@ ghost use Rattle.layer_sets.specs.Masks.{maskOf, bitOf, bitAt};
 ghost use Rattle.layer_sets.specs.Flags.{withFlag};
 
 // Whether layer j is in the mask; no mask has a layer from 64 on.
-pub fn has(mask: u64, j: usize) -> bool
+fn has(mask: u64, j: usize) -> bool
     ensures { λ r. ⌜ r ≡ bitOf mask j ⌝ }
 {
     if j < 64 {
@@ -18,7 +18,7 @@ pub fn has(mask: u64, j: usize) -> bool
 }
 
 // The mask with layer j, where it is below 64.
-pub fn with(mask: u64, j: usize) -> u64
+fn with(mask: u64, j: usize) -> u64
     ensures { λ r. ⌜ r ≡ maskOf 64 (λ k. bitOf mask k || eqb j k) ⌝ }
 {
     if j < 64 {
@@ -38,7 +38,7 @@ pub fn with_flag(mask: u64, v: u32, j: usize) -> u64
 }
 
 // The layers of either mask.
-pub fn union(a: u64, b: u64) -> u64
+fn union(a: u64, b: u64) -> u64
     ensures { λ r. ⌜ r ≡ maskOf 64 (λ k. bitOf a k || bitOf b k) ⌝ }
 {
     a | b

@@ -25,7 +25,7 @@ pub struct Triple {
 }
 
 // One sublayer's triple, for the caller to store.
-pub fn read_dpb_sublayer(bytes: &[u8], c: Cursor) -> Triple
+fn read_dpb_sublayer(bytes: &[u8], c: Cursor) -> Triple
     ensures { λ r. ⌜ Yields dpb-sublayer (now (bytes .entry)) c tt (r .next) (triple (r .row)) ⌝ }
 {
     let buffering = read_steps::see_code(bytes, c);
@@ -94,7 +94,7 @@ pub fn parse_dpb_parameters(bytes: &[u8], rec: &mut [u32], c: Cursor, turns: u64
 }
 
 // A DPB slot: its max tid, and then its sublayers.
-pub fn read_dpb_slot(
+fn read_dpb_slot(
     bytes: &[u8],
     rec: &mut [u32],
     c: Cursor,
@@ -148,7 +148,7 @@ fn read_dpb_slots(
 }
 
 // The picture size of a multi-layer set, and its DPB slot.
-pub fn read_ols_dpb(
+fn read_ols_dpb(
     bytes: &[u8],
     rec: &mut [u32],
     c: Cursor,

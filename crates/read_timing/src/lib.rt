@@ -124,7 +124,7 @@ fn read_sublayer_hrd_if(bytes: &[u8], rec: &mut [u32], c: Cursor, flag: u32, hrd
 }
 
 // A sublayer of ols_timing_hrd_parameters().
-pub fn parse_timing_sublayer(bytes: &[u8], rec: &mut [u32], c: Cursor, hrd: Hrd) -> Cursor
+fn parse_timing_sublayer(bytes: &[u8], rec: &mut [u32], c: Cursor, hrd: Hrd) -> Cursor
     ensures { λ r. ⌜ Meets (timing-sublayer (hrd-of hrd)) (now (bytes .entry)) c tt r (now (rec .entry)) (now (rec .exit)) ⌝ }
 {
     let general = read_steps::take(bytes, rec, c, 1);

@@ -71,6 +71,10 @@ pub written-well-formed : (r u : List ℕ) → writeRecord r ≡ success u → w
 unfolding wellFormed
 written-well-formed r u e = ap (λ (a : Answer (List ℕ)). elim a as (λ d. Bool) [ success b ↦ true | refusal n ↦ false ]) e
 
+pub refused-ill-formed : (r : List ℕ) {n : ℕ} → writeRecord r ≡ refusal n → wellFormed r ≡ false
+unfolding wellFormed
+refused-ill-formed r e = ap (λ (a : Answer (List ℕ)). elim a as (λ d. Bool) [ success b ↦ true | refusal n ↦ false ]) e
+
 pub well-formed-written : (r : List ℕ) → wellFormed r ≡ true → (u : List ℕ) × (writeRecord r ≡ success u)
 unfolding wellFormed
 well-formed-written r e = go (writeRecord r) refl e

@@ -314,21 +314,34 @@ seven-of : (t l a p o b r d m : List Token) → t ≡ section ∷ (l ++ (a ++ (s
     → t ≡ section ∷ (l ++ (section ∷ (r ++ (section ∷ (p ++ (section ∷ (o ++ (section ∷ (d ++ (section ∷ (m ++ (section ∷ []))))))))))))
 seven-of t l a p o b r d m e f g = simp (e, f, g, append-assoc)
 
+module _ {s g : List ℕ} {t : List Token} {next : ℕ} (S : Sections s g t next) where
+  sets-marked : Marked (S .sets-kept)
+  sets-marked = keeps-sets (S .h) .holds s (S .at₂) (S .sets-read)
+
+  buffers-marked : Buffered (S .flag) (S .buffers-kept)
+  buffers-marked = keeps-buffered (S .h) _ _ .holds s (S .at₅) (S .buffers-read)
+
+  seven-parts : Seven t (S .layers-kept) (sets-marked .inner) (S .ptls-kept) (S .ols-kept) (buffers-marked .dpb) (buffers-marked .timing)
+  seven-parts = record {
+    tokens =
+      seven-of t (S .layers-kept) (S .sets-kept) (S .ptls-kept) (S .ols-kept) (S .buffers-kept) (sets-marked .inner) (buffers-marked .dpb) (buffers-marked .timing) (S .tokens-are) (sets-marked .is) (buffers-marked .is);
+    plain-l = plain-layers-section (S .h) .plain .holds s (S .at₁) (S .layers-read);
+    plain-r = sets-marked .plain;
+    plain-p = plain-ptl-section (S .h) _ .plain .holds s (S .at₃) (S .ptls-read);
+    plain-o = plain-ols-section (S .ptls) _ .plain .holds s (S .at₄) (S .ols-read);
+    plain-d = buffers-marked .plain-dpb;
+    plain-m = buffers-marked .plain-timing;
+  }
+
 pub record-sound : (s g : List ℕ) (t : List Token) (next : ℕ) (e : List ℕ) → run vps s 0 ≡ accepted g t next → Sound (recordOf g t e)
 record-sound s g t next e R =
     let S = sections s g t next R in
-    let M = keeps-sets (S .h) .holds s (S .at₂) (S .sets-read) in
-    let B = keeps-buffered (S .h) _ _ .holds s (S .at₅) (S .buffers-read) in
+    let B = buffers-marked S in
     let P = keeps-ptls (S .h) _ .holds s (S .at₃) (S .ptls-read) in
     let O = keeps-ols (S .ptls) _ .holds s (S .at₄) (S .ols-read) in
-    let seven : Seven t (S .layers-kept) (M .inner) (S .ptls-kept) (S .ols-kept) (B .dpb) (B .timing) = record {
-      tokens = seven-of t (S .layers-kept) (S .sets-kept) (S .ptls-kept) (S .ols-kept) (S .buffers-kept) (M .inner) (B .dpb) (B .timing) (S .tokens-are) (M .is) (B .is);
-      plain-l = plain-layers-section (S .h) .plain .holds s (S .at₁) (S .layers-read);
-      plain-r = M .plain;
-      plain-p = plain-ptl-section (S .h) _ .plain .holds s (S .at₃) (S .ptls-read);
-      plain-o = plain-ols-section (S .ptls) _ .plain .holds s (S .at₄) (S .ols-read);
-      plain-d = B .plain-dpb;
-      plain-m = B .plain-timing;
-    } in
-    sound-of g t e (ap length (S .general-is)) seven (S .h .layers) (S .flag) (S .ptls) _ (B .multi) (B .on) (P .0) (O .0) (B .rest)
+    sound-of g t e (ap length (S .general-is)) (seven-parts S) (S .h .layers) (S .flag) (S .ptls) _ (B .multi) (B .on) (P .0) (O .0) (B .rest)
     (ap (λ (l : List ℕ). getD l 0 0) (S .general-is)) (ap (λ (l : List ℕ). getD l 7 0) (S .general-is)) (layers-rise (S .h) .holds s (S .at₁) (S .layers-read)) (P .1) (O .1) (O .2) (B .buffers) (B .timed) (B .inside)
+
+-- a table that is read has seven marks
+pub record-seven : (s g : List ℕ) (t : List Token) (next : ℕ) → run vps s 0 ≡ accepted g t next → marks t ≡ 7
+record-seven s g t next R = seven-marks (seven-parts (sections s g t next R)) .seven

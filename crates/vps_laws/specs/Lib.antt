@@ -22,3 +22,4 @@ pub mod Claims
 pub mod Promises
 pub mod Bound
 pub mod Order
+pub mod Lookup

@@ -35,7 +35,7 @@ starts-append at (number v ∷ t) u =
     rw e (starts-append (at + 1) t u)
 starts-append at (section ∷ t) u = ap (λ (l : List ℕ). at ∷ l) (starts-append at t u)
 
-starts-length : (at : ℕ) (t : List Token) → length (starts at t) ≡ marks t
+pub starts-length : (at : ℕ) (t : List Token) → length (starts at t) ≡ marks t
 unfolding starts marks
 starts-length at [] = refl
 starts-length at (number v ∷ t) = starts-length (at + 1) t
@@ -55,6 +55,21 @@ starts-most n (number v ∷ t) k = omega (arith, starts-most (n + 1) t k)
 starts-most n (section ∷ t) zero = omega arith
 starts-most n (section ∷ t) (suc k) = starts-most n t k
 
+-- no section starts before the one before it
+pub starts-least : (n : ℕ) (t : List Token) (k : ℕ) → k < marks t → n ≤ getD (starts n t) k 0
+unfolding starts marks
+starts-least n [] k h = absurd (omega (arith, h))
+starts-least n (number v ∷ t) k h = omega (arith, starts-least (n + 1) t k h)
+starts-least n (section ∷ t) zero h = omega arith
+starts-least n (section ∷ t) (suc k) h = starts-least n t k (omega (arith, h))
+
+pub starts-rise : (n : ℕ) (t : List Token) (k : ℕ) → suc k < marks t → getD (starts n t) k 0 ≤ getD (starts n t) (suc k) 0
+unfolding starts marks
+starts-rise n [] k h = absurd (omega (arith, h))
+starts-rise n (number v ∷ t) k h = starts-rise (n + 1) t k h
+starts-rise n (section ∷ t) zero h = starts-least n t 0 (omega (arith, h))
+starts-rise n (section ∷ t) (suc k) h = starts-rise n t k (omega (arith, h))
+
 -- the start behind k marks
 starts-at : (at : ℕ) (a b : List Token) → getD (starts at (a ++ (section ∷ b))) (marks a) 0 ≡ at + length (numbers a)
 unfolding starts
@@ -71,13 +86,16 @@ module _ (g : List ℕ) (t : List Token) (e : List ℕ) (nine : length g ≡ 9) 
       ap (λ (n : ℕ). getD (bodyOf g t e ++ starts 9 t ++ z) n 0) l ∙ ap (λ (x : List ℕ). getD x (length (bodyOf g t e) + k) 0) q
       ∙ getD-append-add (bodyOf g t e) (starts 9 t ++ z) k 0 ∙ List·getD-append (starts 9 t) z 0 k (omega arith)
 
+  pub start-listed : (k : ℕ) → k < 7 → startOf (recordOf g t e) (suc k) ≡ getD (starts 9 t) k 0
+  unfolding startOf
+  start-listed k h = rw (lt-ltb k 7 h) (trailer-at k h)
+
   module _ (a b : List Token) (here : t ≡ a ++ (section ∷ b)) where
     below : marks a < 7
     below = unfold marks in omega (arith, ap marks here, marks-append a (section ∷ b))
 
     pub start-of : startOf (recordOf g t e) (suc (marks a)) ≡ 9 + length (numbers a)
-    unfolding startOf
-    start-of = rw (lt-ltb (marks a) 7 below) (trailer-at (marks a) below ∙ ap (λ (x : List Token). getD (starts 9 x) (marks a) 0) here ∙ starts-at 9 a b)
+    start-of = start-listed (marks a) below ∙ ap (λ (x : List Token). getD (starts 9 x) (marks a) 0) here ∙ starts-at 9 a b
 
     -- the record from a section on: what was kept behind its mark, and the rest
     pub from-section : fromSection (recordOf g t e) (suc (marks a)) ≡ numbers b ++ closing g t e

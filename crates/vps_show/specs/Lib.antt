@@ -1,5 +1,4 @@
 pub mod Text
 pub mod Decimal
-pub mod Starts
 pub mod Shown
 pub mod Cases

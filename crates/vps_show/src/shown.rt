@@ -1,14 +1,14 @@
 // The text for an answer of the reader: a record's sections, a line each, or the refusal.
 ghost use mathlib.Core.Path.{_≡_};
-ghost use Prim.Native.Nat.{_-_, min};
-ghost use lib.ListN.{length, getD};
-ghost use Rattle.vps_definition.specs.Record.{startOf, endOf};
+ghost use Prim.Native.Nat.{min};
 ghost use Rattle.vps_reader.specs.Answers.{parsedAnswer};
 ghost use Rattle.vps_show.specs.Text.{Puts};
 ghost use Rattle.vps_show.specs.Shown.{line, firstLines, lastLines, recordText, okText, refusedText, shown};
 use crate::text::put;
 use crate::text::put_number;
 use crate::text::put_numbers;
+use record_parts::end_of;
+use record_parts::start_of;
 use refusals::RECORD_TOO_SHORT;
 use vps_reader::Parsed;
 
@@ -16,46 +16,6 @@ fn least(a: usize, b: usize) -> usize
     ensures { λ r. ⌜ r ≡ min a b ⌝ }
 {
     if a < b { a } else { b }
-}
-
-// The number at an index; 0 past the end.
-fn number_at(record: &[u32], i: usize) -> u32
-    ensures { λ r. ⌜ r ≡ getD (now («record» .entry)) i 0 ⌝ }
-{
-    if i < record.len() { record[i] } else { 0 }
-}
-
-// Where the trailer starts.
-fn trailer_start(record: &[u32]) -> usize
-    ensures { λ r. ⌜ r ≡ length (now («record» .entry)) - 8 ⌝ }
-{
-    if record.len() < 8 {
-        return 0;
-    }
-    record.len() - 8
-}
-
-// Where a section starts, as the trailer says.
-fn start_of(record: &[u32], k: usize) -> usize
-    ensures { λ r. ⌜ r ≡ startOf (now («record» .entry)) k ⌝ }
-{
-    if k == 0 {
-        return 0;
-    }
-    if k - 1 < 7 {
-        return number_at(record, trailer_start(record) + (k - 1)) as usize;
-    }
-    trailer_start(record)
-}
-
-// Where it ends: there the next one starts.
-fn end_of(record: &[u32], k: usize) -> usize
-    ensures { λ r. ⌜ r ≡ endOf (now («record» .entry)) k ⌝ }
-{
-    if k < 8 {
-        return start_of(record, k + 1);
-    }
-    record.len()
 }
 
 // A section's name and its numbers.

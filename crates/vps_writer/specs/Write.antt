@@ -2,7 +2,7 @@
 use Prim.Native.Nat.{ℕ, _+_, _≤_, _<_}
 use mathlib.Core.Path.{_≡_, refl, sym, ap, _∙_, subst}
 use mathlib.Core.List.{List, [], _∷_, _++_}
-use mathlib.Core.Bool.{Bool, true, false}
+use mathlib.Core.Bool.{Bool, true, false, not}
 use native.Mathlib.Nat.{zero-add}
 use native.Mathlib.Omega.{arith}
 use borrow.Author.Tests.{le-leb, lt-leb}
@@ -18,8 +18,9 @@ use Rattle.bit_sink.specs.Holds.{limit}
 use Rattle.vps_definition.specs.Syntax.{Token, numbers, starts, Written, emit}
 use Rattle.vps_definition.specs.Syntax.Written.{wrote, bad}
 use Rattle.vps_definition.specs.Vps.{vps}
-use Rattle.vps_definition.specs.Writing.{extensionOf, unitOf, finished, writeRecord}
+use Rattle.vps_definition.specs.Writing.{extensionOf, unitOf, finished, writeRecord, wellFormed}
 use Rattle.vps_laws.specs.Writing.{emit-numbers}
+use Rattle.vps_laws.specs.Claims.{written-well-formed, refused-ill-formed}
 use Rattle.write_steps.specs.declared.Place.{Place}
 use Rattle.write_steps.specs.Does.{Ready, Fails}
 use Rattle.write_steps.specs.Marked.{Marked}
@@ -94,6 +95,14 @@ pub record Measured (r : List ℕ) (e : Ended) : Type 0 where
   pub before : List ℕ
   pub after : List ℕ
   pub finishes : Finishes (writeRecord r) 2 before e after
+
+-- so it finds whether the record is well formed
+pub measured-well-formed : (r : List ℕ) {e : Ended} → Measured r e → not (e .bad) ≡ wellFormed r
+measured-well-formed r {e} M = go (e .bad) refl
+  where
+    go : (b : Bool) → e .bad ≡ b → not (e .bad) ≡ wellFormed r
+    go true h = ap not h ∙ sym (refused-ill-formed r (M .finishes .refused h))
+    go false h = ap not h ∙ sym (written-well-formed r _ (M .finishes .good h .is))
 
 -- ── By what the first pass found ──────────────────────────────────────
 module _ (r out : List ℕ) where

@@ -1,5 +1,6 @@
 // Writes a record as a VPS unit into a lent output: a first pass measures, a second fills, by the same code.
-ghost use Rattle.vps_definition.specs.Writing.{writeRecord};
+ghost use mathlib.Core.Path.{_≡_};
+ghost use Rattle.vps_definition.specs.Writing.{writeRecord, wellFormed};
 ghost use Rattle.write_end.specs.Ends.{Finishes};
 ghost use Rattle.vps_writer.specs.Write.{Measured, Writes};
 use refusals::NOT_WELL_FORMED;
@@ -60,6 +61,14 @@ fn measure(rec: &[u32]) -> Ended
 {
     let mut none = [0u8; 1];
     put_rbsp(rec, &mut none)
+}
+
+// Whether a record is well formed.
+pub fn is_well_formed(record: &[u32]) -> bool
+    ensures { λ r. ⌜ r ≡ wellFormed (now («record» .entry)) ⌝ }
+{
+    let found = measure(record);
+    !found.bad
 }
 
 // A record, written as a unit into a lent output.

@@ -10,7 +10,7 @@ use write_steps::Sent;
 const SUBLAYER_DPB_PARAMS_PRESENT_FLAG: usize = 7;
 
 // One sublayer's triple.
-pub fn write_dpb_sublayer(rec: &[u32], out: &mut [u8], p: Place) -> Place
+fn write_dpb_sublayer(rec: &[u32], out: &mut [u8], p: Place) -> Place
     ensures { λ r. ⌜ Does dpb-sublayer (now (rec .entry)) p tt r (now (out .entry)) (now (out .exit)) ⌝ }
 {
     let buffering = write_steps::put_code(rec, out, p);
@@ -38,7 +38,7 @@ pub fn write_dpb_parameters(rec: &[u32], out: &mut [u8], p: Place, turns: u64) -
 }
 
 // A DPB slot: its max tid, and then its sublayers.
-pub fn write_dpb_slot(
+fn write_dpb_slot(
     rec: &[u32],
     out: &mut [u8],
     p: Place,
@@ -91,7 +91,7 @@ fn write_dpb_slots(
 }
 
 // The picture size of a multi-layer set, and its DPB slot.
-pub fn write_ols_dpb(rec: &[u32], out: &mut [u8], p: Place, slots: u32, multi: u32, i: u32) -> Place
+fn write_ols_dpb(rec: &[u32], out: &mut [u8], p: Place, slots: u32, multi: u32, i: u32) -> Place
     ensures { λ r. ⌜ Does (ols-dpb slots multi i) (now (rec .entry)) p tt r (now (out .entry)) (now (out .exit)) ⌝ }
 {
     let width = write_steps::put_code(rec, out, p);
@@ -131,7 +131,7 @@ pub fn write_dpb_section(
 {
     let slots = write_steps::put_code_minus1(rec, out, p);
     let held = write_steps::hold(slots.next, slots.v <= multi);
-    let kept = write_steps::number_at(rec, SUBLAYER_DPB_PARAMS_PRESENT_FLAG);
+    let kept = record_parts::number_at(rec, SUBLAYER_DPB_PARAMS_PRESENT_FLAG);
     let flag = write_steps::put_late_if(out, held, 0 < max_sublayers_minus1, 1, kept, 0);
     let filled = write_dpb_slots(
         rec,

@@ -43,7 +43,7 @@ fn has_numbers(rec: &[u32], from: usize, list: &[usize]) -> bool
     }
     let mut i = 0;
     while i < list.len() {
-        if write_steps::number_at(rec, from + i) as usize != list[i] {
+        if record_parts::number_at(rec, from + i) as usize != list[i] {
             return false;
         }
         i += 1;
@@ -77,7 +77,7 @@ fn has_end(rec: &[u32], c: usize, flag: u32, general: &[usize], trailer: &[usize
     if left < 9 {
         return false;
     }
-    let count = write_steps::number_at(rec, c) as usize;
+    let count = record_parts::number_at(rec, c) as usize;
     if left - 9 != count {
         return false;
     }
@@ -114,7 +114,7 @@ fn put_flags(rec: &[u32], out: &mut [u8], p: Place, count: u32) -> Place
 fn write_extension(rec: &[u32], out: &mut [u8], p: Place) -> Place
     ensures { λ r. ⌜ Does (extension-table (countIn (now (rec .entry)) (p .c))) (now (rec .entry)) p tt r (now (out .entry)) (now (out .exit)) ⌝ }
 {
-    let count = write_steps::number_at(rec, p.c);
+    let count = record_parts::number_at(rec, p.c);
     let kept = write_steps::keep(rec, p, count);
     put_flags(rec, out, kept.next, count)
 }

@@ -308,10 +308,3 @@ pub fn align(out: &mut [u8], p: Place) -> Place
         bad: false,
     }
 }
-
-// Number i of the record; 0 past the end.
-pub fn number_at(rec: &[u32], i: usize) -> u32
-    ensures { λ r. ⌜ r ≡ getD (now (rec .entry)) i 0 ⌝ }
-{
-    if i < rec.len() { rec[i] } else { 0 }
-}

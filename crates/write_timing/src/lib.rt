@@ -114,7 +114,7 @@ fn write_sublayer_hrd_if(rec: &[u32], out: &mut [u8], p: Place, flag: u32, hrd: 
 }
 
 // A sublayer of ols_timing_hrd_parameters().
-pub fn write_timing_sublayer(rec: &[u32], out: &mut [u8], p: Place, hrd: Hrd) -> Place
+fn write_timing_sublayer(rec: &[u32], out: &mut [u8], p: Place, hrd: Hrd) -> Place
     ensures { λ r. ⌜ Does (timing-sublayer (hrd-of hrd)) (now (rec .entry)) p tt r (now (out .entry)) (now (out .exit)) ⌝ }
 {
     let general = write_steps::put(rec, out, p, 1);

@@ -1,0 +1,76 @@
+-- What is promised of parse_vps and write_vps_nal as they stand. A call is what its contract relates (Calls.antt), with
+-- whatever the buffers held before: `Reads c r n` says that the call c of parse_vps succeeded with the record r and n bits used,
+-- `Puts w u` that the call w of write_vps_nal succeeded with the bytes u; `ReadRoom` and `WriteRoom` that buffers are long enough.
+use Prim.Native.Nat.{ℕ, _+_, _*_, _≤_, _<_}
+use mathlib.Core.Path.{_≡_, refl, sym, ap, _∙_}
+use mathlib.Core.List.{List, _++_}
+use mathlib.Core.Logic.{_↔_}
+use lib.ListN.{length, getD, drop}
+use Rattle.refusals.specs.Answer.{Answer}
+use Rattle.refusals.specs.Answer.Answer.{success, refusal}
+use Rattle.refusals.specs.Number.{not-well-formed}
+use Rattle.stuffing.specs.Stuffing.{unstuff}
+use Rattle.vps_definition.specs.Layout.{layerIds, ptlCount, setCount, ptlIndices, dpbCount, multiCount, dpbIndices, timingFlag, timingCount, timingIndices}
+use Rattle.vps_definition.specs.Reading.{rbspSpans, most-rbsp-bytes, readUnit}
+use Rattle.vps_definition.specs.Reading.Reading.{accepts}
+use Rattle.vps_definition.specs.Writing.{writeRecord}
+use Rattle.vps_laws.specs.Reading.{Each}
+use Rattle.vps_laws.specs.Promises as Promised
+use Rattle.vps_reader.specs.Parse.Parse.{accepted}
+use Rattle.vps_reader.specs.Answers.{parsedAnswer}
+use Rattle.vps_writer.specs.Write.{writtenAnswer}
+use Rattle.vps_promises.specs.Calls.{ReadCall, ReadRoom, Reads, WriteCall, WriteRoom, Puts, reads-accepted, accepted-reads, refused-leaves, puts-written, written-puts, refused-leaves-output}
+
+-- 1. Read, written and read again: the record of a unit that was read is written, and what was written is read as that record.
+pub read-write-read : {u r : List ℕ} {n : ℕ} (c : ReadCall u) → Reads c r n → (w : WriteCall r) → WriteRoom w
+    → (v : List ℕ) × (Puts w v × ((d : ReadCall v) → ReadRoom d → Reads d r (8 * length (unstuff (drop 2 v)))))
+read-write-read {u} {r} {n} c R w room =
+    let W = Promised.accepted-is-written u r n (reads-accepted c R) .1 in
+    (W .0, (written-puts w room (W .1), λ d space. accepted-reads d space (Promised.written-is-read-back r (W .0) (W .1))))
+
+-- 2. Of a record that was read, by its own numbers: layer ids rise, and each index lies below its table's length.
+module _ {u r : List ℕ} {n : ℕ} (c : ReadCall u) (R : Reads c r n) where
+  pub layer-ids-rise : (length (layerIds r) ≡ getD r 0 0) × ((i : ℕ) → i + 1 < length (layerIds r) → getD (layerIds r) i 0 < getD (layerIds r) (i + 1) 0)
+  layer-ids-rise = Promised.layer-ids-rise u r n (reads-accepted c R)
+
+  pub ptl-index-inside : (length (ptlIndices r) ≡ setCount r) × ((i : ℕ) → i < length (ptlIndices r) → getD (ptlIndices r) i 0 < ptlCount r)
+  ptl-index-inside = Promised.ptl-index-inside u r n (reads-accepted c R)
+
+  pub dpb-index-inside : (length (dpbIndices r) ≡ multiCount r) × ((i : ℕ) → i < length (dpbIndices r) → getD (dpbIndices r) i 0 < dpbCount r)
+  dpb-index-inside = Promised.dpb-index-inside u r n (reads-accepted c R)
+
+  pub timing-index-inside : timingFlag r ≡ 1 → (length (timingIndices r) ≡ multiCount r) × ((i : ℕ) → i < length (timingIndices r) → getD (timingIndices r) i 0 < timingCount r)
+  timing-index-inside = Promised.timing-index-inside u r n (reads-accepted c R)
+
+  -- 3. No bit past the unit is used: the number reported is at most eight times the RBSP's bytes, and each bit that is taken is one of those counted.
+  pub bits-inside : (n ≤ 8 * length (unstuff (drop 2 u))) × Each (λ taken. taken .to ≤ n) (rbspSpans (unstuff (drop 2 u)))
+  bits-inside = Promised.bits-inside u r n (reads-accepted c R)
+
+  -- 4. Bytes appended to a unit with extension flag 0, within the length limit, change nothing.
+  pub appended-bytes-change-nothing : (x : List ℕ) → getD r 8 0 ≡ 0 → length (unstuff (drop 2 (u ++ x))) ≤ most-rbsp-bytes → (d : ReadCall (u ++ x)) → ReadRoom d → Reads d r n
+  appended-bytes-change-nothing x f l d room = accepted-reads d room (Promised.appended-bytes-change-nothing u x r n (reads-accepted c R) f l)
+
+  -- 5. Whatever the buffers held: any other call on the unit, with long enough buffers, reads the same.
+  pub read-alike : (d : ReadCall u) → ReadRoom d → Reads d r n
+  read-alike d room = accepted-reads d room (reads-accepted c R)
+
+pub written-alike : {r u : List ℕ} (w : WriteCall r) → Puts w u → (v : WriteCall r) → WriteRoom v → Puts v u
+written-alike w P v room = written-puts v room (puts-written w P)
+
+-- 6. Two records that were written have the same bytes exactly if they are the same.
+pub same-bytes-same-record : {r r′ u u′ : List ℕ} (w : WriteCall r) (w′ : WriteCall r′) → Puts w u → Puts w′ u′ → (u ≡ u′) ↔ (r ≡ r′)
+same-bytes-same-record {r} {r′} {u} {u′} w w′ P P′ = Promised.same-bytes-same-record r r′ u u′ (puts-written w P) (puts-written w′ P′)
+
+-- 7. The writer finds a record well formed exactly if some unit is read as it.
+pub written-iff-read : {r : List ℕ} (w : WriteCall r) → WriteRoom w → ((u : List ℕ) × Puts w u) ↔ ((u : List ℕ) × (n : ℕ) × (readUnit u ≡ accepts r n))
+written-iff-read {r} w room = (
+  (λ h. (h .0, 8 * length (unstuff (drop 2 (h .0))), Promised.written-is-read-back r (h .0) (puts-written w (h .1)))),
+  (λ h. let W = Promised.accepted-is-written (h .0) r (h .1) (h .2) .1 in (W .0, written-puts w room (W .1))),
+)
+
+-- 8. A refusal leaves record and output as they were.
+pub refused-record-unchanged : {u : List ℕ} (c : ReadCall u) → ((m n : ℕ) → parsedAnswer (c .answer) ≡ accepted m n → ⊥) → c .rec-after ≡ c .rec
+refused-record-unchanged = refused-leaves
+
+pub refused-output-unchanged : {r : List ℕ} (w : WriteCall r) → ((n : ℕ) → writtenAnswer (w .answer) ≡ success n → ⊥) → w .out-after ≡ w .out
+refused-output-unchanged = refused-leaves-output
