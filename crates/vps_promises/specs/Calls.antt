@@ -1,5 +1,5 @@
 -- Calls of parse_vps and write_vps_nal, by their contracts: a call is what went in, what it answered and what it left.
-use Prim.Native.Nat.{ℕ, _/_, _≤_, _<_}
+use Prim.Native.Nat.{ℕ, _+_, _/_, _≤_, _<_}
 use mathlib.Core.Path.{_≡_, refl, sym, ap, _∙_, subst}
 use mathlib.Core.List.{List, [], _∷_, _++_}
 use mathlib.Core.Bool.{Bool, true, false, cond}

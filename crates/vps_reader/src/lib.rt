@@ -15,7 +15,6 @@ ghost use Rattle.vps_reader.specs.Parse.{parsePayload, parseUnit};
 ghost use Rattle.vps_reader.specs.Measures.{Found, Measures, recordIn};
 ghost use Rattle.vps_reader.specs.Answers.{Answers, Gives};
 use bit_reader::Moved;
-use bit_reader::ReadPlace;
 use read_steps::Cursor;
 use read_vps::Whole;
 use refusals::NOT_A_VPS;
@@ -60,8 +59,7 @@ fn extension_bits(bytes: &[u8], flag: u32, at: usize) -> usize
 fn read_end(bytes: &[u8], at: usize) -> Moved
     ensures { λ r. ⌜ (at < 2 ^ 63 → movedAnswer r ≡ trailingAt (now (bytes .entry)) at) ⌝ }
 {
-    let place = ReadPlace { bit_pos: at };
-    place.read_rbsp_trailing_bits(bytes)
+    rbsp_reader::read_trailing(bytes, at)
 }
 
 // The first pass: nothing is stored.

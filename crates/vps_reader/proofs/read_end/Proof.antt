@@ -6,12 +6,12 @@ use borrow.Author.Needs.{needs}
 use Rattle.vps_reader.proofs.read_end.Statement.{statement}
 use Rattle.vps_reader.proofs.read_end.Tie as tie
 
-read-rbsp-trailing-bits-requires : tie.Need-read-rbsp-trailing-bits-requires
-read-rbsp-trailing-bits-requires c κs = search needs
+read-trailing-requires : tie.Need-read-trailing-requires
+read-trailing-requires c κs = search needs
 
 returns : tie.Need-returns
 unfolding readTrailing
-returns c l = c .read-rbsp-trailing-bits .ensures ∙ rw (lt-ltb _ _ l) refl
+returns c l = c .read-trailing .ensures ∙ rw (lt-ltb _ _ l) refl
 
 pub read-end-spec : {M : Type 1} → statement M
-read-end-spec = tie.close (tie.spec read-rbsp-trailing-bits-requires returns)
+read-end-spec = tie.close (tie.spec read-trailing-requires returns)

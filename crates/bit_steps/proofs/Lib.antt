@@ -1,0 +1,6 @@
+pub mod FromCore
+pub mod LentPlace
+pub mod NoNumber
+pub mod OneNumber
+pub mod Shown
+pub mod TwoNumbers

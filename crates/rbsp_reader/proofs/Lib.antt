@@ -1,0 +1,3 @@
+pub mod AfterMoved
+pub mod AfterRead
+pub mod Held
