@@ -33,7 +33,7 @@ pub fn lines(seed: u64, count: usize, longest: usize) -> String {
 }
 
 // Another number in one or two places, one more or one less, two of them exchanged, or the end cut off.
-fn changed(random: &mut Random, record: &[u32]) -> Vec<u32> {
+pub fn changed(random: &mut Random, record: &[u32]) -> Vec<u32> {
     let mut numbers = record.to_vec();
     let place = random.below(numbers.len());
     match random.below(16) {

@@ -40,3 +40,13 @@ impl List {
         format!("{}different 0\n", self.counts)
     }
 }
+
+// A number among others: a byte below 255, or 255 and four bytes.
+pub fn put_number(content: &mut Vec<u8>, n: u32) {
+    if n < 255 {
+        content.push(n as u8);
+    } else {
+        content.push(255);
+        content.extend(n.to_be_bytes());
+    }
+}

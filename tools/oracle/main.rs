@@ -1,4 +1,5 @@
 // The Rust's answers, by sub-command: each is a module of its own.
+mod broken;
 mod changed_records;
 mod definition_units;
 mod draft;
@@ -6,6 +7,8 @@ mod leaves;
 mod list;
 mod random;
 mod record;
+mod record_list;
+mod record_numbers;
 mod records;
 mod refusal;
 mod samples;
@@ -22,6 +25,9 @@ oracle leaves expected                       what it is to print
 oracle unit-list                             the list that crates/units_replay replays, as bytes
 oracle unit-list expected                    what it is to print
 oracle unit-list shapes                      how many of its accepted cases show each shape
+oracle record-list                           the list that crates/records_replay replays, as bytes
+oracle record-list expected                  what it is to print
+oracle record-list shapes                    how many of its written cases show each shape, and how many each way has
 oracle show HEX                              the Rust's answer for a unit
 oracle records                               what the Rust writes for records that are not well formed
 oracle units SEED COUNT MAXBYTES             a line a unit: bytes, and record with bits used, or refusal
@@ -39,6 +45,9 @@ fn main() -> ExitCode {
         ["unit-list"] => write_out(unit_list::list().bytes()),
         ["unit-list", "expected"] => write_out(unit_list::list().expected().as_bytes()),
         ["unit-list", "shapes"] => write_out(unit_list::shapes_shown().as_bytes()),
+        ["record-list"] => write_out(record_list::list().bytes()),
+        ["record-list", "expected"] => write_out(record_list::list().expected().as_bytes()),
+        ["record-list", "shapes"] => write_out(record_list::shapes_shown().as_bytes()),
         ["show", hex] => match show::unit_of(hex) {
             Some(unit) => write_out(show::answer(&unit).as_bytes()),
             None => fail("not pairs of hexadecimal digits"),

@@ -362,7 +362,7 @@ fn walked(flag: u8, max_tid: u8) -> usize {
 }
 
 // How many sets there are, and how many of them have several layers.
-fn sets(v: &VvcVps) -> (usize, usize) {
+pub fn sets(v: &VvcVps) -> (usize, usize) {
     let n = v.layers.len();
     if v.vps_each_layer_is_an_ols_flag == 1 {
         return (n, 0);

@@ -1,7 +1,7 @@
 // The list that crates/units_replay replays: units of all kinds with the Rust's answers, each with a length of the work
 // buffer and of the record. The Rust has no buffers: 3, 4 and 30 are rules of this project, applied to its answers.
 use crate::definition_units::{Answer, answer_of};
-use crate::list::List;
+use crate::list::{List, put_number};
 use crate::record::{Reading, read, record_of};
 use crate::show::unit_of;
 use crate::structures::{mode_of, shapes};
@@ -120,16 +120,6 @@ impl Case {
         }
         numbers.iter().for_each(|&n| put_number(&mut content, n));
         (answer, content)
-    }
-}
-
-// A byte below 255, or 255 and four bytes.
-fn put_number(content: &mut Vec<u8>, n: u32) {
-    if n < 255 {
-        content.push(n as u8);
-    } else {
-        content.push(255);
-        content.extend(n.to_be_bytes());
     }
 }
 

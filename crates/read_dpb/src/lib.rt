@@ -148,14 +148,7 @@ fn read_dpb_slots(
 }
 
 // The picture size of a multi-layer set, and its DPB slot.
-fn read_ols_dpb(
-    bytes: &[u8],
-    rec: &mut [u32],
-    c: Cursor,
-    slots: u32,
-    multi: u32,
-    i: u32,
-) -> Cursor
+fn read_ols_dpb(bytes: &[u8], rec: &mut [u32], c: Cursor, slots: u32, multi: u32, i: u32) -> Cursor
     ensures { λ r. ⌜ Meets (ols-dpb slots multi i) (now (bytes .entry)) c tt r (now (rec .entry)) (now (rec .exit)) ⌝ }
 {
     let width = read_steps::take_code(bytes, rec, c);

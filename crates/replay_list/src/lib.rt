@@ -2,7 +2,7 @@
 ghost use mathlib.Core.Path.{_≡_};
 ghost use Prim.Native.Nat.{_-_, _%_, _<_};
 ghost use lib.ListN.{getD, take, drop};
-ghost use Rattle.replay_list.specs.Numbers.{two, four, eight};
+ghost use Rattle.replay_list.specs.Numbers.{two, four, eight, numberAt, placeBehind};
 ghost use Rattle.replay_list.specs.Replayed.{replayed};
 use libc::STDIN_FILENO;
 use libc::STDOUT_FILENO;
@@ -64,6 +64,30 @@ pub fn first(content: &[u8], n: usize) -> &[u8]
     } else {
         content
     }
+}
+
+// The number at a place among others: a byte below 255, or 255 and four bytes.
+pub fn number_at(numbers: &[u8], at: usize) -> u32
+    ensures { λ r. ⌜ r ≡ numberAt (now (numbers .entry)) at ⌝ }
+{
+    let least = byte_at(numbers, at);
+    if least < 255 {
+        return least;
+    }
+    four_bytes(behind(behind(numbers, at), 1))
+}
+
+// The place behind that number; past the end, the place itself.
+pub fn next_place(numbers: &[u8], at: usize) -> usize
+    ensures { λ r. ⌜ r ≡ placeBehind (now (numbers .entry)) at ⌝ }
+{
+    if numbers.len() <= at {
+        return at;
+    }
+    if byte_at(numbers, at) < 255 {
+        return at + 1;
+    }
+    at + 5
 }
 
 // What an output holds beforehand at an index.

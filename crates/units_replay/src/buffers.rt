@@ -1,7 +1,6 @@
 // The unit and the lent buffers of a case: how they are before the call, and whether they are as recorded after it.
-use replay_list::behind;
-use replay_list::byte_at;
-use replay_list::four_bytes;
+use replay_list::next_place;
+use replay_list::number_at;
 use replay_list::pattern;
 
 fn wide(b: u8) -> u32 {
@@ -63,26 +62,6 @@ pub fn is_work_same(work: &[u8], rbsp: &[u8], length: usize) -> bool {
         i += 1;
     }
     true
-}
-
-// The number at a place: a byte below 255, or 255 and four bytes.
-fn number_at(numbers: &[u8], at: usize) -> u32 {
-    let first = byte_at(numbers, at);
-    if first < 255 {
-        return first;
-    }
-    four_bytes(behind(behind(numbers, at), 1))
-}
-
-// The place behind that number.
-fn next_place(numbers: &[u8], at: usize) -> usize {
-    if numbers.len() <= at {
-        return at;
-    }
-    if byte_at(numbers, at) < 255 {
-        return at + 1;
-    }
-    at + 5
 }
 
 fn record_number(numbers: &[u8], at: usize, length: usize, i: usize) -> u32 {

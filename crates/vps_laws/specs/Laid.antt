@@ -324,7 +324,7 @@ module _ {s g : List ℕ} {t : List Token} {next : ℕ} (S : Sections s g t next
   seven-parts : Seven t (S .layers-kept) (sets-marked .inner) (S .ptls-kept) (S .ols-kept) (buffers-marked .dpb) (buffers-marked .timing)
   seven-parts = record {
     tokens =
-      seven-of t (S .layers-kept) (S .sets-kept) (S .ptls-kept) (S .ols-kept) (S .buffers-kept) (sets-marked .inner) (buffers-marked .dpb) (buffers-marked .timing) (S .tokens-are) (sets-marked .is) (buffers-marked .is);
+        seven-of t (S .layers-kept) (S .sets-kept) (S .ptls-kept) (S .ols-kept) (S .buffers-kept) (sets-marked .inner) (buffers-marked .dpb) (buffers-marked .timing) (S .tokens-are) (sets-marked .is) (buffers-marked .is);
     plain-l = plain-layers-section (S .h) .plain .holds s (S .at₁) (S .layers-read);
     plain-r = sets-marked .plain;
     plain-p = plain-ptl-section (S .h) _ .plain .holds s (S .at₃) (S .ptls-read);

@@ -19,14 +19,23 @@ pub fn section_part(record: &[u32], number: u32) -> Part
     ensures { λ r. ⌜ (r .start ≡ sectionStart (now («record» .entry)) number) × (r .start + r .count ≡ sectionEnd (now («record» .entry)) number) ⌝ }
 {
     if Part::LAST < number {
-        return Part { start: record.len(), count: 0 };
+        return Part {
+            start: record.len(),
+            count: 0,
+        };
     }
     if !vps_writer::is_well_formed(record) {
-        return Part { start: record.len(), count: 0 };
+        return Part {
+            start: record.len(),
+            count: 0,
+        };
     }
     let start = record_parts::start_of(record, number as usize);
     let end = record_parts::end_of(record, number as usize);
-    Part { start, count: end - start }
+    Part {
+        start,
+        count: end - start,
+    }
 }
 
 // A section's numbers, in the caller's own record.
