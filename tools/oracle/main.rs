@@ -1,21 +1,5 @@
 // The Rust's answers, by sub-command: each is a module of its own.
-mod broken;
-mod changed_records;
-mod definition_units;
-mod draft;
-mod leaves;
-mod list;
-mod random;
-mod record;
-mod record_list;
-mod record_numbers;
-mod records;
-mod refusal;
-mod samples;
-mod show;
-mod structures;
-mod unit_list;
-mod units;
+use judge::{changed_records, definition_units, leaves, record_list, records, samples, show, unit_list, units};
 
 use std::io::Write;
 use std::process::ExitCode;

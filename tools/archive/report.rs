@@ -1,0 +1,119 @@
+// What was compared: counts by call and answer, and the differences.
+use judge::structures::{Mode, MODES, SHAPES};
+use std::collections::BTreeMap;
+
+// What a call is counted by: a success, of a mode where there is one, or the refusal's number.
+#[derive(Clone, Copy, PartialEq, Eq, PartialOrd, Ord)]
+pub enum Answer {
+    Success,
+    Of(Mode),
+    Refused(u32),
+}
+
+impl Answer {
+    fn name(self) -> String {
+        match self {
+            Answer::Success => "success".to_string(),
+            Answer::Of(mode) => mode.name().to_string(),
+            Answer::Refused(number) => format!("refused {number}"),
+        }
+    }
+}
+
+#[derive(Default)]
+pub struct Report {
+    answers: BTreeMap<(&'static str, Answer), usize>,
+    inputs: BTreeMap<(&'static str, &'static str), usize>,
+    shapes: BTreeMap<&'static str, usize>,
+    differences: usize,
+}
+
+// So many differences are printed.
+const PRINTED: usize = 20;
+
+// So many calls of each answer there have to be; of refusal 1, for which there are few units, fewer.
+const LEAST: usize = 100;
+const LEAST_OF_1: usize = 20;
+
+impl Report {
+    pub fn answer(&mut self, call: &'static str, answer: Answer) {
+        *self.answers.entry((call, answer)).or_default() += 1;
+    }
+
+    // An input, by what it is for and how it was made.
+    pub fn input(&mut self, what: &'static str, kind: &'static str) {
+        *self.inputs.entry((what, kind)).or_default() += 1;
+    }
+
+    // What an accepted unit shows.
+    pub fn shape(&mut self, name: &'static str) {
+        *self.shapes.entry(name).or_default() += 1;
+    }
+
+    pub fn difference(&mut self, words: impl FnOnce() -> String) {
+        self.differences += 1;
+        if self.differences <= PRINTED {
+            println!("DIFFERENCE\n{}", words());
+        }
+    }
+
+    pub fn differences(&self) -> usize {
+        self.differences
+    }
+
+    // The counts, what has too few, and whether the run is good.
+    pub fn finish(&self) -> bool {
+        println!("\n| Input | Made as | Count |\n|---|---|---|");
+        for ((what, kind), count) in &self.inputs {
+            println!("| {what} | {kind} | {count} |");
+        }
+        println!("\n| Accepted units with | Count |\n|---|---|");
+        for (name, count) in &self.shapes {
+            println!("| {name} | {count} |");
+        }
+        println!("\n| Call | Answer | Count |\n|---|---|---|");
+        for ((call, answer), count) in &self.answers {
+            println!("| {call} | {} | {count} |", answer.name());
+        }
+        let few = self.too_few();
+        few.iter().for_each(|words| println!("TOO FEW: {words}"));
+        println!("\ncalls {}, differences {}", self.answers.values().sum::<usize>(), self.differences);
+        few.is_empty() && self.differences == 0
+    }
+
+    fn too_few(&self) -> Vec<String> {
+        let expected = expected();
+        let count = |key| self.answers.get(key).copied().unwrap_or(0);
+        let least = |answer| if answer == Answer::Refused(1) { LEAST_OF_1 } else { LEAST };
+        let short = expected.iter().filter(|key| count(key) < least(key.1));
+        let mut few: Vec<String> = short.map(|key| format!("{}, {}: {}", key.0, key.1.name(), count(key))).collect();
+        let shown = |name| self.shapes.get(name).copied().unwrap_or(0);
+        few.extend(SHAPES.iter().filter(|name| shown(*name) < LEAST).map(|name| format!("{name}: {}", shown(name))));
+        few
+    }
+}
+
+// Every answer that a call has.
+fn expected() -> Vec<(&'static str, Answer)> {
+    let mut all = Vec::new();
+    for call in ["vps_parse", "vps_write"] {
+        all.extend(MODES.map(|mode| (call, Answer::Of(mode))));
+    }
+    all.extend((1..=30).map(|number| ("vps_parse", Answer::Refused(number))));
+    all.extend([31, 32].map(|number| ("vps_write", Answer::Refused(number))));
+    for call in ["vps_ebsp_to_rbsp", "vps_rbsp_to_ebsp"] {
+        all.extend([(call, Answer::Success), (call, Answer::Refused(32))]);
+    }
+    all.extend(
+        ["vps_section of a record", "vps_section over 8", "vps_section of a broken list"]
+            .map(|call| (call, Answer::Success)),
+    );
+    all
+}
+
+// The first so many numbers of a list, as text.
+pub fn shown(numbers: &[u32]) -> String {
+    let words: Vec<String> = numbers.iter().take(4096).map(u32::to_string).collect();
+    let rest = if numbers.len() > 4096 { format!(" .. ({} numbers)", numbers.len()) } else { String::new() };
+    format!("{}{rest}", words.join(" "))
+}
