@@ -112,15 +112,15 @@ module _ {s : List ℕ} {c : Cursor} (n w : ℕ) where
 
   -- who has kept them all, and goes on behind them, meets the table
   pub meets-reversed : {p j : ℕ} {c′ : Cursor} {rec rec′ : List ℕ} → j ≡ 0 → p ≡ c .at + n * w → Meets (keeps (fieldsBehind s (c .at) n w j)) s c tt c′ rec rec′
-      → Meets (reversed n w) s c (fallingAt s (c .at) n w) (record { at = p; n = c′ .n; refused = c′ .refused }) rec rec′
+      → Meets (reversed n w) s c (fallingAt s (c .at) n w) (record { at = p; n = c′ .n; refused = c′ .refused; spare = 0 }) rec rec′
   meets-reversed {p} {j} {c′} {rec} {rec′} z i M = record { goes = went; stays = M .stays }
     where
-      went : c .refused ≡ 0 → Fits (reversed n w) s (c .at) (c .n) → After (run (reversed n w) s (c .at)) c (fallingAt s (c .at) n w) (record { at = p; n = c′ .n; refused = c′ .refused }) rec rec′
+      went : c .refused ≡ 0 → Fits (reversed n w) s (c .at) (c .n) → After (run (reversed n w) s (c .at)) c (fallingAt s (c .at) n w) (record { at = p; n = c′ .n; refused = c′ .refused; spare = 0 }) rec rec′
       went e F =
           let l : List ℕ = fallingAt s (c .at) n w in
           let N : Meets (keeps l) s c tt c′ rec rec′ = meets-as (ap keeps (all-behind s (c .at) n w j z)) M in
           let W : Went tt (tokens l) (c .at) c tt c′ rec rec′ = subst (λ (x : Outcome (Unit {0})). After x c tt c′ rec rec′) (run-keeps l s (c .at)) (N .goes e (fits-reversed n w s (c .at) (c .n) F)) in
-          subst (λ (x : Outcome (List ℕ)). After x c l (record { at = p; n = c′ .n; refused = c′ .refused }) rec rec′) (sym (run-reversed n w s (c .at)))
+          subst (λ (x : Outcome (List ℕ)). After x c l (record { at = p; n = c′ .n; refused = c′ .refused; spare = 0 }) rec rec′) (sym (run-reversed n w s (c .at)))
           (record { result = refl; place = i; cursor = W .cursor; open′ = W .open′; stored = W .stored })
 
 -- from a place that is never reached

@@ -128,6 +128,7 @@ fn read_reversed(bytes: &[u8], rec: &mut [u32], c: Cursor, count: u32, width: u3
         at: place_behind(c, count, width),
         n: next.n,
         refused: next.refused,
+        spare: 0,
     }
 }
 

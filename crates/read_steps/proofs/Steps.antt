@@ -48,19 +48,19 @@ closes c b h e = closed {c = c} {b = b} h (not-true b e)
 -- ── How a step ends ───────────────────────────────────────────────────
 -- a number is read or inferred, and stored
 pub stores : {m : Syntax ℕ} {s : List ℕ} {c : Cursor} {v place next : ℕ} {rec rec′ : List ℕ} → Opens c → Reads m s (c .at) v (number v ∷ []) next → place ≡ next → rec′ ≡ set rec (c .n) v
-    → Meets m s c v (record { at = place; n = c .n + 1; refused = 0 }) rec rec′
+    → Meets m s c v (record { at = place; n = c .n + 1; refused = 0; spare = 0 }) rec rec′
 unfolding numbers
 stores {v = v} {next = next} o R p e = meets-step (number v ∷ []) next o (reads-run R) (record { result = refl; place = p; cursor = refl; open′ = refl; stored = e })
 
 -- nothing is stored
 pub passes : {A : Type 0} {m : Syntax A} {s : List ℕ} {c : Cursor} {a : A} {place next : ℕ} {rec : List ℕ} → Opens c → Reads m s (c .at) a [] next → place ≡ next
-    → Meets m s c a (record { at = place; n = c .n; refused = 0 }) rec rec
+    → Meets m s c a (record { at = place; n = c .n; refused = 0; spare = 0 }) rec rec
 unfolding numbers
 passes {c = c} {next = next} o R p = meets-step [] next o (reads-run R) (record { result = refl; place = p; cursor = sym (add-zero (c .n)); open′ = refl; stored = refl })
 
 -- it is refused
 pub stops : {A : Type 0} {m : Syntax A} {s : List ℕ} {c : Cursor} {a : A} {k place n : ℕ} {rec rec′ : List ℕ} → c .refused ≡ 0 → run m s (c .at) ≡ refused k [] → (k ≡ 0 → ⊥)
-    → Meets m s c a (record { at = place; n = n; refused = k }) rec rec′
+    → Meets m s c a (record { at = place; n = n; refused = k; spare = 0 }) rec rec′
 stops {k = k} o e h = meets-refused k [] o e (record { some = h; shut′ = refl })
 
 -- it was refused before
@@ -75,7 +75,7 @@ code-said r s at h e = sym (e ∙ rw (lt-ltb at (2 ^ 63) (omega arith)) refl)
 
 -- a code that was read is the table's
 pub stores-code : {plus : ℕ} {s : List ℕ} {c : Cursor} {v total : ℕ} {p : ReadPlace} {rec rec′ : List ℕ} (r : Read.Read) → Opens c → readAnswer r ≡ readCode s (c .at) → r ≡ Read.the-variants.Value v p
-    → v + plus ≡ total → rec′ ≡ set rec (c .n) total → Meets (code plus done) s c total (record { at = p .«bit_pos»; n = c .n + 1; refused = 0 }) rec rec′
+    → v + plus ≡ total → rec′ ≡ set rec (c .n) total → Meets (code plus done) s c total (record { at = p .«bit_pos»; n = c .n + 1; refused = 0; spare = 0 }) rec rec′
 stores-code {s = s} {c = c} r o e i t h = stores o (read-code-as (code-said r s (c .at) (o .room .near) e ∙ ap readAnswer i) t read-done) refl h
 
 -- and leaves room for one more
@@ -115,7 +115,7 @@ code-refused s at n e = go (ltb k 32) (ltb (at + k) (8 * length s)) e
     go false b h z = let y : code-too-long ≡ n = cc in omega arith
 
 pub stops-code : {plus : ℕ} {s : List ℕ} {c : Cursor} {a k place n : ℕ} {rec rec′ : List ℕ} (r : Read.Read) → Opens c → readAnswer r ≡ readCode s (c .at) → r ≡ Read.the-variants.Refused k
-    → Meets (code plus done) s c a (record { at = place; n = n; refused = k }) rec rec′
+    → Meets (code plus done) s c a (record { at = place; n = n; refused = k; spare = 0 }) rec rec′
 unfolding run
 stops-code {s = s} {c = c} {k = k} r o e i =
     let said : codeAt s (c .at) ≡ Code.Taken.refused k = code-said r s (c .at) (o .room .near) e ∙ ap readAnswer i in

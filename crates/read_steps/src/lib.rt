@@ -14,11 +14,13 @@ use refusals::NOT_WELL_FORMED;
 // Places and cursors from here on are never reached: the whole table stays below.
 pub const LIMIT: usize = 0x4000_0000_0000_0000;
 
-// Where a reading is: the bit place, the record's next number, and the refusal that stopped it, or 0.
+// Where a reading is: the bit place, the record's next number, and the refusal that stopped it, or 0. The last field holds
+// nothing: it fills the struct to whole words, which compilers move faster than one with a gap.
 pub struct Cursor {
     pub at: usize,
     pub n: usize,
     pub refused: u32,
+    pub spare: u32,
 }
 
 // A number that was read, and the cursor behind it.
@@ -36,6 +38,7 @@ impl Cursor {
             at: 0,
             n,
             refused: 0,
+            spare: 0,
         }
     }
 }
@@ -73,6 +76,7 @@ fn shut(c: Cursor) -> Cursor
         at: c.at,
         n: c.n,
         refused: NOT_WELL_FORMED,
+        spare: 0,
     }
 }
 
@@ -101,6 +105,7 @@ pub fn take(bytes: &[u8], rec: &mut [u32], c: Cursor, width: u32) -> Took
             at: c.at + capped(width) as usize,
             n: c.n + 1,
             refused: 0,
+            spare: 0,
         },
     }
 }
@@ -123,6 +128,7 @@ pub fn take_minus1(bytes: &[u8], rec: &mut [u32], c: Cursor) -> Took
             at: c.at + 8,
             n: c.n + 1,
             refused: 0,
+            spare: 0,
         },
     }
 }
@@ -144,6 +150,7 @@ pub fn infer(rec: &mut [u32], c: Cursor, v: u32) -> Took
             at: c.at,
             n: c.n + 1,
             refused: 0,
+            spare: 0,
         },
     }
 }
@@ -182,6 +189,7 @@ pub fn take_late(bytes: &[u8], c: Cursor, width: u32) -> Took
             at: c.at + capped(width) as usize,
             n: c.n,
             refused: 0,
+            spare: 0,
         },
     }
 }
@@ -217,6 +225,7 @@ pub fn take_code(bytes: &[u8], rec: &mut [u32], c: Cursor) -> Took
                     at: p.bit_pos,
                     n: c.n + 1,
                     refused: 0,
+                    spare: 0,
                 },
             }
         }
@@ -226,6 +235,7 @@ pub fn take_code(bytes: &[u8], rec: &mut [u32], c: Cursor) -> Took
                 at: c.at,
                 n: c.n,
                 refused: number,
+                spare: 0,
             },
         },
     }
@@ -252,6 +262,7 @@ pub fn take_code_minus1(bytes: &[u8], rec: &mut [u32], c: Cursor) -> Took
                     at: p.bit_pos,
                     n: c.n + 1,
                     refused: 0,
+                    spare: 0,
                 },
             }
         }
@@ -261,6 +272,7 @@ pub fn take_code_minus1(bytes: &[u8], rec: &mut [u32], c: Cursor) -> Took
                 at: c.at,
                 n: c.n,
                 refused: number,
+                spare: 0,
             },
         },
     }
@@ -291,6 +303,7 @@ pub fn hold(c: Cursor, holds: bool, number: u32) -> Cursor
         at: c.at,
         n: c.n,
         refused: number,
+        spare: 0,
     }
 }
 
@@ -305,6 +318,7 @@ pub fn skip_to_boundary(c: Cursor) -> Cursor
         at: c.at + (8 - c.at % 8) % 8,
         n: c.n,
         refused: 0,
+        spare: 0,
     }
 }
 
@@ -321,12 +335,14 @@ pub fn align(bytes: &[u8], c: Cursor, number: u32) -> Cursor
             at: c.at,
             n: c.n,
             refused: number,
+            spare: 0,
         };
     }
     Cursor {
         at: c.at + width,
         n: c.n,
         refused: 0,
+        spare: 0,
     }
 }
 
@@ -349,6 +365,7 @@ pub fn see_code(bytes: &[u8], c: Cursor) -> Took
                 at: p.bit_pos,
                 n: c.n + 1,
                 refused: 0,
+                spare: 0,
             },
         },
         Read::Refused(number) => Took {
@@ -357,6 +374,7 @@ pub fn see_code(bytes: &[u8], c: Cursor) -> Took
                 at: c.at,
                 n: c.n,
                 refused: number,
+                spare: 0,
             },
         },
     }

@@ -55,7 +55,7 @@ pushes-none {fits} {n = n} {p = p} r T e f l h =
 -- bits are pushed, as the sink does it
 pub pushes-bits : {fits fits′ : Bool} {n c : ℕ} {b : List ℕ} {p : Place} {s : Sink} {out out′ : List ℕ} (r : Bool) → Tested fits n p r → not r ≡ false → fits ≡ fits′ → (fits′ ≡ true → n ≡ length b)
     → (fits′ ≡ true → (start : ℕ) (d lent : List ℕ) → Holds start d (p .sink) lent out → start < limit → length d < limit → Holds start (d ++ b) s lent out′)
-    → Pushes fits′ b p c (record { c = c; sink = s; bad = false }) out out′
+    → Pushes fits′ b p c (record { c = c; sink = s; bad = false; «spare_1» = 0; «spare_2» = 0; «spare_4» = 0 }) out out′
 pushes-bits {fits} {n = n} {b = b} {p = p} r T e f l H =
     let O : Opens fits n p = subst (Tested fits n p) (not-false r e) T in
     let i = sym f ∙ O .fitting in
@@ -180,7 +180,7 @@ pub pushed-zeros : {s s′ : Sink} {out out′ : List ℕ}
 pushed-zeros {s′ = s′} {out′ = out′} H start d lent h i l = subst (λ (k : ℕ). Holds start (d ++ replicate (toBoundary k) 0) s′ lent out′) (sym (h .counted)) (H start d lent h i l)
 
 -- a place that nothing is pushed from
-pub stays-put : {p : Place} {c : ℕ} {out : List ℕ} → Pushes true [] p c (record { c = c; sink = p .sink; bad = p .bad }) out out
+pub stays-put : {p : Place} {c : ℕ} {out : List ℕ} → Pushes true [] p c (record { c = c; sink = p .sink; bad = p .bad; «spare_1» = 0; «spare_2» = 0; «spare_4» = 0 }) out out
 stays-put {p} {out = out} = record {
   pushes = λ h. record {
     good = h;

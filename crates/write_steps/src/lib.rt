@@ -17,11 +17,15 @@ use bit_sink::Sink;
 // The bits of the longest RBSP.
 pub const MOST_BITS: usize = 524_280;
 
-// Where a writing is: the record's next number, the sink, and whether the record was found not well formed or too long.
+// Where a writing is: the record's next number, the sink, and whether the record was found not well formed or too long. The
+// spare fields hold nothing: they fill the struct to whole words, which compilers move faster than one with a gap.
 pub struct Place {
     pub c: usize,
     pub sink: Sink,
     pub bad: bool,
+    pub spare_1: u8,
+    pub spare_2: u16,
+    pub spare_4: u32,
 }
 
 impl Place {
@@ -33,6 +37,9 @@ impl Place {
             c,
             sink: Sink::new(start),
             bad: false,
+            spare_1: 0,
+            spare_2: 0,
+            spare_4: 0,
         }
     }
 }
@@ -52,6 +59,9 @@ fn spoiled(p: Place) -> Place
         c: p.c,
         sink,
         bad: true,
+        spare_1: 0,
+        spare_2: 0,
+        spare_4: 0,
     }
 }
 
@@ -113,6 +123,9 @@ fn push_field(out: &mut [u8], p: Place, c: usize, value: u32, width: u32) -> Pla
         c,
         sink: bit_sink::put(out, sink, value, width),
         bad: false,
+        spare_1: 0,
+        spare_2: 0,
+        spare_4: 0,
     }
 }
 
@@ -128,6 +141,9 @@ fn push_code(out: &mut [u8], p: Place, c: usize, value: u32) -> Place
         c,
         sink: bit_sink::put_code(out, sink, value),
         bad: false,
+        spare_1: 0,
+        spare_2: 0,
+        spare_4: 0,
     }
 }
 
@@ -217,6 +233,9 @@ pub fn keep(rec: &[u32], p: Place, v: u32) -> Sent
             c: c + 1,
             sink,
             bad: p.bad,
+            spare_1: 0,
+            spare_2: 0,
+            spare_4: 0,
         },
     }
 }
@@ -306,5 +325,8 @@ pub fn align(out: &mut [u8], p: Place) -> Place
         c: p.c,
         sink: bit_sink::put_zeros_to_boundary(out, sink),
         bad: false,
+        spare_1: 0,
+        spare_2: 0,
+        spare_4: 0,
     }
 }
