@@ -1,41 +1,7 @@
 // The functions of the static archive, called as C calls them. Each call gives back the number that it returns;
 // what it stores is in the buffers and numbers that the caller lends.
 
-// A slice crosses as its pointer and its length, in elements.
-unsafe extern "C" {
-    fn vps_parse(
-        unit: *const u8,
-        unit_length: usize,
-        work: *mut u8,
-        work_length: usize,
-        record: *mut u32,
-        record_length: usize,
-        length: *mut u64,
-        bits_used: *mut u64,
-    ) -> u32;
-    fn vps_write(
-        record: *const u32,
-        record_length: usize,
-        output: *mut u8,
-        output_length: usize,
-        written: *mut u64,
-    ) -> u32;
-    fn vps_section(record: *const u32, record_length: usize, number: u32, start: *mut u64, count: *mut u64) -> u32;
-    fn vps_ebsp_to_rbsp(
-        source: *const u8,
-        source_length: usize,
-        output: *mut u8,
-        output_length: usize,
-        length: *mut u64,
-    ) -> u32;
-    fn vps_rbsp_to_ebsp(
-        source: *const u8,
-        source_length: usize,
-        output: *mut u8,
-        output_length: usize,
-        length: *mut u64,
-    ) -> u32;
-}
+use crate::declared::{vps_ebsp_to_rbsp, vps_parse, vps_rbsp_to_ebsp, vps_section, vps_write};
 
 // In each call the pointers and lengths are those of slices and numbers that live through it.
 

@@ -2,6 +2,8 @@
 pub mod buffers;
 pub mod calls;
 pub mod cases;
+#[path = "../../interface/rust/src/declared.rs"]
+mod declared;
 pub mod reading;
 pub mod report;
 pub mod sections;

@@ -1,4 +1,4 @@
-//! The functions of the archive, as `interface/vps.h` declares them, each with its slices put together again. Here alone is unsafe code.
+//! The functions of the archive, each with its slices put together again. Here, and where they are declared, is all unsafe code.
 #![allow(unsafe_code)]
 
 /// What a call gave, and a number that it stored, which is 0 where it stored none.
@@ -14,48 +14,7 @@ pub(crate) struct SaidOfUnit {
     pub(crate) bits_used: u64,
 }
 
-mod declared {
-    unsafe extern "C" {
-        pub(super) fn vps_parse(
-            unit: *const u8,
-            unit_length: usize,
-            work: *mut u8,
-            work_length: usize,
-            record: *mut u32,
-            record_length: usize,
-            length: *mut u64,
-            bits_used: *mut u64,
-        ) -> u32;
-        pub(super) fn vps_write(
-            record: *const u32,
-            record_length: usize,
-            output: *mut u8,
-            output_length: usize,
-            written: *mut u64,
-        ) -> u32;
-        pub(super) fn vps_section(
-            record: *const u32,
-            record_length: usize,
-            number: u32,
-            start: *mut u64,
-            count: *mut u64,
-        ) -> u32;
-        pub(super) fn vps_ebsp_to_rbsp(
-            source: *const u8,
-            source_length: usize,
-            output: *mut u8,
-            output_length: usize,
-            length: *mut u64,
-        ) -> u32;
-        pub(super) fn vps_rbsp_to_ebsp(
-            source: *const u8,
-            source_length: usize,
-            output: *mut u8,
-            output_length: usize,
-            length: *mut u64,
-        ) -> u32;
-    }
-}
+use crate::declared;
 
 // Each call below hands over slices that its caller holds, with their lengths, and numbers of its own. The slices are not null,
 // aligned, and, where they are lent to be changed, overlap nothing else: that is all the archive asks.

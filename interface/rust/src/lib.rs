@@ -23,6 +23,7 @@
 
 mod archive;
 mod calls;
+mod declared;
 mod refusal;
 mod section;
 
