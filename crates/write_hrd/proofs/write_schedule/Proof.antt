@@ -3,8 +3,8 @@ use Rattle.vps_definition.specs.Words.{nothing}
 use Rattle.vps_definition.specs.TimingHrd.{schedule}
 use Rattle.write_steps.specs.Laws.{does-then, does-done}
 use borrow.Author.Needs.{needs}
-use Rattle.write_timing.proofs.write_schedule.Statement.{statement}
-use Rattle.write_timing.proofs.write_schedule.Tie as tie
+use Rattle.write_hrd.proofs.write_schedule.Statement.{statement}
+use Rattle.write_hrd.proofs.write_schedule.Tie as tie
 
 put-code-requires : tie.Need-put-code-requires
 put-code-requires c κs = search needs

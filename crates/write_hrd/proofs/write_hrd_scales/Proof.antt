@@ -2,8 +2,8 @@
 use Rattle.write_steps.specs.Laws.{does-then, does-done}
 use Rattle.vps_entries.specs.Hrd.{hrd-scales}
 use borrow.Author.Needs.{needs}
-use Rattle.write_timing.proofs.write_hrd_scales.Statement.{statement}
-use Rattle.write_timing.proofs.write_hrd_scales.Tie as tie
+use Rattle.write_hrd.proofs.write_hrd_scales.Statement.{statement}
+use Rattle.write_hrd.proofs.write_hrd_scales.Tie as tie
 
 put-if-requires : tie.Need-put-if-requires
 put-if-requires c κs = search needs

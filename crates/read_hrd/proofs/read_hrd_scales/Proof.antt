@@ -3,8 +3,8 @@ use native.Mathlib.Omega.{arith}
 use Rattle.read_steps.specs.Laws.{meets-then, meets-done}
 use Rattle.vps_entries.specs.Hrd.{hrd-scales}
 use borrow.Author.Needs.{needs}
-use Rattle.read_timing.proofs.read_hrd_scales.Statement.{statement}
-use Rattle.read_timing.proofs.read_hrd_scales.Tie as tie
+use Rattle.read_hrd.proofs.read_hrd_scales.Statement.{statement}
+use Rattle.read_hrd.proofs.read_hrd_scales.Tie as tie
 
 take-if-requires : tie.Need-take-if-requires
 take-if-requires c κs = search needs

@@ -4,8 +4,8 @@ use Rattle.vps_definition.specs.Words.{when, nothing}
 use Rattle.vps_definition.specs.TimingHrd.{du-values}
 use Rattle.write_steps.specs.Laws.{does-then, does-done, does-yes, does-no}
 use borrow.Author.Needs.{needs}
-use Rattle.write_timing.proofs.write_du_values.Statement.{statement}
-use Rattle.write_timing.proofs.write_du_values.Tie as tie
+use Rattle.write_hrd.proofs.write_du_values.Statement.{statement}
+use Rattle.write_hrd.proofs.write_du_values.Tie as tie
 
 returns : tie.Need-returns
 unfolding when nothing

@@ -4,8 +4,8 @@ use Rattle.vps_definition.specs.Words.{repeat}
 use Rattle.vps_definition.specs.TimingHrd.{schedule, sublayer-hrd}
 use Rattle.read_steps.specs.Turns.{Turned, turned-none, turned-more, turned-stop, turned-all}
 use borrow.Author.Needs.{needs}
-use Rattle.read_timing.proofs.parse_sublayer_hrd.Statement.{statement}
-use Rattle.read_timing.proofs.parse_sublayer_hrd.Tie as tie
+use Rattle.read_hrd.proofs.parse_sublayer_hrd.Statement.{statement}
+use Rattle.read_hrd.proofs.parse_sublayer_hrd.Tie as tie
 
 abbrev Inv-loop : tie.InvT-loop
 Inv-loop bytes rec₀ hrd count at₀ i₀ rec at i = Turned (λ i x. schedule (hrd .du)) count bytes at₀ rec₀ i at rec

@@ -4,8 +4,8 @@ use Rattle.vps_definition.specs.Words.{when, nothing}
 use Rattle.vps_definition.specs.TimingHrd.{du-values}
 use Rattle.read_steps.specs.Laws.{meets-then, meets-done, meets-yes, meets-no}
 use borrow.Author.Needs.{needs}
-use Rattle.read_timing.proofs.read_du_values.Statement.{statement}
-use Rattle.read_timing.proofs.read_du_values.Tie as tie
+use Rattle.read_hrd.proofs.read_du_values.Statement.{statement}
+use Rattle.read_hrd.proofs.read_du_values.Tie as tie
 
 returns : tie.Need-returns
 unfolding when nothing

@@ -6,8 +6,8 @@ use Rattle.vps_definition.specs.TimingHrd.{general-timing-hrd}
 use Rattle.read_steps.specs.Laws.{meets-as, meets-then}
 use Rattle.vps_entries.specs.Hrd.{hrd-scales}
 use borrow.Author.Needs.{needs}
-use Rattle.read_timing.proofs.parse_general_timing_hrd.Statement.{statement}
-use Rattle.read_timing.proofs.parse_general_timing_hrd.Tie as tie
+use Rattle.read_hrd.proofs.parse_general_timing_hrd.Statement.{statement}
+use Rattle.read_hrd.proofs.parse_general_timing_hrd.Tie as tie
 
 take-requires : tie.Need-take-requires
 take-requires c κs = search needs

@@ -5,8 +5,8 @@ use Rattle.vps_definition.specs.TimingHrd.{general-timing-hrd}
 use Rattle.write_steps.specs.Laws.{does-as, does-then}
 use Rattle.vps_entries.specs.Hrd.{hrd-scales}
 use borrow.Author.Needs.{needs}
-use Rattle.write_timing.proofs.write_general_timing_hrd.Statement.{statement}
-use Rattle.write_timing.proofs.write_general_timing_hrd.Tie as tie
+use Rattle.write_hrd.proofs.write_general_timing_hrd.Statement.{statement}
+use Rattle.write_hrd.proofs.write_general_timing_hrd.Tie as tie
 
 put-requires : tie.Need-put-requires
 put-requires c κs = search needs

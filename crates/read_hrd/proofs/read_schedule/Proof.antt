@@ -3,8 +3,8 @@ use Rattle.vps_definition.specs.Words.{nothing}
 use Rattle.vps_definition.specs.TimingHrd.{schedule}
 use Rattle.read_steps.specs.Laws.{meets-then, meets-done}
 use borrow.Author.Needs.{needs}
-use Rattle.read_timing.proofs.read_schedule.Statement.{statement}
-use Rattle.read_timing.proofs.read_schedule.Tie as tie
+use Rattle.read_hrd.proofs.read_schedule.Statement.{statement}
+use Rattle.read_hrd.proofs.read_schedule.Tie as tie
 
 take-code-requires : tie.Need-take-code-requires
 take-code-requires c κs = search needs

@@ -4,8 +4,8 @@ use Rattle.vps_definition.specs.Words.{repeat}
 use Rattle.vps_definition.specs.TimingHrd.{schedule, sublayer-hrd}
 use Rattle.write_steps.specs.Turns.{Turned, turned-none, turned-more, turned-stop, turned-all}
 use borrow.Author.Needs.{needs}
-use Rattle.write_timing.proofs.write_sublayer_hrd.Statement.{statement}
-use Rattle.write_timing.proofs.write_sublayer_hrd.Tie as tie
+use Rattle.write_hrd.proofs.write_sublayer_hrd.Statement.{statement}
+use Rattle.write_hrd.proofs.write_sublayer_hrd.Tie as tie
 
 abbrev Inv-loop : tie.InvT-loop
 Inv-loop rec out₀ hrd count at₀ i₀ out at i = Turned (λ i x. schedule (hrd .du)) count rec at₀ out₀ i at out
