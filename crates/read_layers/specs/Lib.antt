@@ -1,6 +1,2 @@
-pub mod Readings
-pub mod Headers
 pub mod Flags
 pub mod Layers
-pub mod Rows
-pub mod Sets

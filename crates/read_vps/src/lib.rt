@@ -7,12 +7,12 @@ ghost use Rattle.vps_definition.specs.TimingHrd.{timing-section};
 ghost use Rattle.vps_definition.specs.Vps.{ptl-section, ols-section, multi-layer-sections, single-layer-sections, buffer-sections, vps};
 ghost use Rattle.read_steps.specs.Meets.{Meets};
 ghost use Rattle.read_steps.specs.Marked.{Marked};
-ghost use Rattle.read_layers.specs.Headers.{headerOf};
+ghost use Rattle.vps_header.specs.Fields.{headerOf};
 ghost use Rattle.read_vps.specs.Whole.{generalIn, startsIn};
-use read_layers::Header;
 use read_steps::Cursor;
 use read_steps::Took;
 use refusals::PTL_INDEX;
+use vps_header::Header;
 
 // The PTLs, whose fields the header decides.
 fn read_ptls(bytes: &[u8], rec: &mut [u32], c: Cursor, h: Header, total: u32) -> Took
@@ -165,11 +165,11 @@ pub fn read_vps(bytes: &[u8], rec: &mut [u32], c: Cursor) -> Whole
     ensures { λ r. ⌜ Marked vps (now (bytes .entry)) c (generalIn r) (r .next) (now (rec .entry)) (now (rec .exit)) (startsIn r) ⌝ }
 {
     let mut closed = [0u64; Whole::MOST_LAYERS];
-    let head = read_layers::read_header(bytes, c);
+    let head = read_header::read_header(bytes, c);
     let h = head.header;
     let first = head.next;
     let layers = read_layers::read_layers(bytes, rec, &mut closed, first, h);
-    let sets = read_layers::read_sets(bytes, rec, &closed, layers, h);
+    let sets = read_sets::read_sets(bytes, rec, &closed, layers, h);
     let listed = sets.next;
     let ptls = read_ptls(bytes, rec, listed, h, sets.total);
     let levels = ptls.next;

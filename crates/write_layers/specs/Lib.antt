@@ -1,5 +1,2 @@
-pub mod Headers
 pub mod Flags
 pub mod Layers
-pub mod Rows
-pub mod Sets

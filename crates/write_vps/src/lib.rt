@@ -5,9 +5,9 @@ ghost use Prim.Native.Nat.{ℕ};
 ghost use Rattle.vps_definition.specs.Vps.{ptl-section, buffer-sections, vps};
 ghost use Rattle.write_steps.specs.Does.{Does};
 ghost use Rattle.write_steps.specs.Marked.{Marked};
-ghost use Rattle.write_layers.specs.Headers.{headerOf};
+ghost use Rattle.vps_header.specs.Fields.{headerOf};
 ghost use Rattle.write_vps.specs.Whole.{generalIn, startsIn};
-use write_layers::Header;
+use vps_header::Header;
 use write_sections::Buffers;
 use write_steps::Place;
 use write_steps::Sent;
@@ -79,11 +79,11 @@ pub fn write_vps(rec: &[u32], out: &mut [u8], p: Place) -> Whole
     ensures { λ r. ⌜ Marked vps (now (rec .entry)) p (generalIn r) (r .next) (now (out .entry)) (now (out .exit)) (startsIn r) ⌝ }
 {
     let mut closed = [0u64; Whole::MOST_LAYERS];
-    let head = write_layers::write_header(rec, out, p);
+    let head = write_header::write_header(rec, out, p);
     let h = head.header;
     let first = head.next;
     let layers = write_layers::write_layers(rec, out, &mut closed, first, h);
-    let sets = write_layers::write_sets(rec, out, &closed, layers, h);
+    let sets = write_sets::write_sets(rec, out, &closed, layers, h);
     let listed = sets.next;
     let ptls = write_ptls(rec, out, listed, h, sets.total);
     let levels = ptls.next;

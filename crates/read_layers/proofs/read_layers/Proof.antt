@@ -3,7 +3,7 @@ use Prim.Native.Nat.{_-_, _≤_}
 use native.Mathlib.Omega.{arith}
 use mathlib.Core.Path.{_≡_}
 use lib.ListN.{length}
-use Rattle.read_layers.specs.Headers.{headerOf}
+use Rattle.vps_header.specs.Fields.{headerOf}
 use Rattle.read_layers.specs.Layers.{LayersSoFar, layers-begin, layers-turn, layers-end}
 use borrow.Author.Needs.{needs}
 use Rattle.read_layers.proofs.read_layers.Statement.{statement}

@@ -1,5 +1,5 @@
 -- `read_vps` meets its contract: the sections stand in the table's order, each with its start.
-use Rattle.read_layers.specs.Readings.{meets-general}
+use Rattle.read_header.specs.Readings.{meets-general}
 use Rattle.read_steps.specs.Laws.{meets-as, meets-done}
 use Rattle.read_steps.specs.Marked.{marked-as, marked-plain, marked-mark, marked-then}
 use Rattle.vps_definition.specs.Vps.{ptl-section, ols-section, buffer-sections, vps}

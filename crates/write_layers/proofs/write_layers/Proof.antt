@@ -1,6 +1,6 @@
 -- `write_layers` meets its contract: behind turn i the layers below i have their closed masks.
 use Prim.Native.Nat.{_-_, _≤_}
-use Rattle.write_layers.specs.Headers.{headerOf}
+use Rattle.vps_header.specs.Fields.{headerOf}
 use Rattle.write_layers.specs.Layers.{LayersSoFar, layers-begin, layers-turn, layers-end}
 use lib.ListN.{length}
 use mathlib.Core.Path.{_≡_}
