@@ -16,18 +16,12 @@ use Rattle.vps_definition.specs.Vps.{Header, Head, head, ptl-head, ptl-slot, pt
 use Rattle.vps_laws.specs.Bind.{Bound, run-bound}
 use Rattle.vps_laws.specs.Keeps.{Returns, keeps-bind, keeps-done, keeps-check, returns-bind}
 use Rattle.vps_laws.specs.Heads.{headAt, head-last, heads-longer}
+use Rattle.ptl_tables.specs.Section.{sublayersOf, head-of}
 use Rattle.read_steps.specs.declared.Cursor.{Cursor}
 use Rattle.read_steps.specs.Fits.{Fits, fits-first, fits-second}
 use Rattle.read_steps.specs.Meets.{Went, After, Meets}
 use Rattle.read_steps.specs.Laws.{meets-as, meets-begin, meets-turn, meets-break}
 use Rattle.read_ptl.specs.Results.{resultOf, Accepted, meets-result}
-
--- what the heads ask of the header
-abbrev pub sublayersOf : (default-max-tid-flag max-sublayers-minus1 : ℕ) → Header
-sublayersOf flag top = record { id = 0; layers = 1; max-sublayers-minus1 = top; default-max-tid-flag = flag; all-independent-flag = 1 }
-
-abbrev pub head-of : (flag top i : ℕ) → List Head → Syntax (List Head)
-head-of flag top = ptl-head (sublayersOf flag top)
 
 -- the first n heads, where they are accepted
 abbrev pub headsAt : List ℕ → (at flag top n : ℕ) → List Head
@@ -164,26 +158,3 @@ module _ {s : List ℕ} {flag top count : ℕ} {from c : Cursor} {rec : List ℕ
 
   pub slots-break : {i : ℕ} {heads c₁ : Cursor} {rec₁ : List ℕ} → (c₁ .refused ≡ 0 → ⊥) → Slotting s flag top count i from heads c c₁ rec rec₁ → SlotsMet s flag top count count from c c₁ rec rec₁
   slots-break {i} h S = record { goes = λ all l L. meets-break (ptl-slot all) count i tt (S .below) h (S .met .goes all l L); stays = S .met .stays }
-
--- ── The section ───────────────────────────────────────────────────────
--- what the section asks of the header
-pub record Asked (h : Header) (layers flag top : ℕ) : Type 0 where
-  pub layers′ : layers ≡ h .layers
-  pub flag′ : flag ≡ h .default-max-tid-flag
-  pub top′ : top ≡ h .max-sublayers-minus1
-
-abbrev pub slot-count : (layers : ℕ) → Syntax ℕ
-slot-count layers = test (eqb layers 1) (inferred 1) (u-minus1 8)
-
-abbrev pub section-of : (layers flag top total : ℕ) → Syntax ℕ
-section-of layers flag top total = do
-  count ← slot-count layers
-  c10 ← check (leb count total) ptls-over-sets
-  heads ← loop (head-of flag top) count 0 []
-  vps-ptl-alignment-zero-bits ← aligned ptl-alignment
-  s ← loop (ptl-slot heads) count 0 tt
-  done count
-
-pub section-asked : (h : Header) (layers flag top total : ℕ) → Asked h layers flag top → section-of layers flag top total ≡ ptl-section h total
-unfolding ptl-section ptl-head
-section-asked h layers flag top total A = λ j. section-of (A .layers′ j) (A .flag′ j) (A .top′ j) total

@@ -22,17 +22,11 @@ use Rattle.vps_laws.specs.Loops.{loop-turn}
 use Rattle.vps_laws.specs.Keeps.{Silent, keeps-bind, keeps-late, keeps-test, keeps-done, keeps-check, keeps-aligned, keeps-loop}
 use Rattle.vps_laws.specs.Heads.{headAt, head-last}
 use Rattle.ptl_slots.specs.Slot.{nextSlot}
+use Rattle.ptl_tables.specs.Section.{head-of, Asked, slot-count, section-asked}
 use Rattle.write_steps.specs.declared.Place.{Place}
 use Rattle.write_steps.specs.Does.{Ready, Does}
 use Rattle.write_steps.specs.Laws.{Had, goes-on, does-as, does-behind, does-then, does-done, does-begin, does-turn, does-break, does-known}
-use Rattle.write_ptl.specs.Ends.{emit-skim, Ends, ends-done, ends-late, ends-test, ends-check, ends-then, does-ends, does-ready}
-
--- what the heads ask of the header
-abbrev pub sublayersOf : (default-max-tid-flag max-sublayers-minus1 : ℕ) → Header
-sublayersOf flag top = record { id = 0; layers = 1; max-sublayers-minus1 = top; default-max-tid-flag = flag; all-independent-flag = 1 }
-
-abbrev pub head-of : (flag top i : ℕ) → List Head → Syntax (List Head)
-head-of flag top = ptl-head (sublayersOf flag top)
+use Rattle.write_constraints.specs.Ends.{emit-skim, Ends, ends-done, ends-late, ends-test, ends-check, ends-then, does-ends, does-ready}
 
 -- the head of a slot, the i-th, which the record's rest y begins with
 abbrev pub headIn : (flag top i : ℕ) (y : List ℕ) → Head
@@ -216,28 +210,6 @@ module _ {rec : List ℕ} {flag top count : ℕ} {p : Place} {out : List ℕ} wh
       subst (λ (k : ℕ). Does (loop (ptl-slot (headsOf flag top rec (drop (p .c) rec) count)) k 0 tt) rec p tt p₁ out out₁) e (S .made)
 
 -- ── The section ───────────────────────────────────────────────────────
--- what the section asks of the header
-pub record Asked (h : Header) (layers flag top : ℕ) : Type 0 where
-  pub layers′ : layers ≡ h .layers
-  pub flag′ : flag ≡ h .default-max-tid-flag
-  pub top′ : top ≡ h .max-sublayers-minus1
-
-abbrev pub slot-count : (layers : ℕ) → Syntax ℕ
-slot-count layers = test (eqb layers 1) (inferred 1) (u-minus1 8)
-
-abbrev section-of : (layers flag top total : ℕ) → Syntax ℕ
-section-of layers flag top total = do
-  count ← slot-count layers
-  c10 ← check (leb count total) ptls-over-sets
-  heads ← loop (head-of flag top) count 0 []
-  vps-ptl-alignment-zero-bits ← aligned ptl-alignment
-  s ← loop (ptl-slot heads) count 0 tt
-  done count
-
-section-asked : (h : Header) (layers flag top total : ℕ) → Asked h layers flag top → section-of layers flag top total ≡ ptl-section h total
-unfolding ptl-section ptl-head
-section-asked h layers flag top total A = λ j. section-of (A .layers′ j) (A .flag′ j) (A .top′ j) total
-
 pub does-section : {rec : List ℕ} {h : Header} {layers flag top : ℕ} (total : ℕ) {count : ℕ} {p p₁ p₂ p₃ p₄ p₅ : Place} {out out₁ out₂ out₃ out₄ : List ℕ} → Asked h layers flag top → Does (slot-count layers) rec p count p₁ out out₁
     → ((number : ℕ) (rec out : List ℕ) → Does (check (leb count total) number) rec p₁ tt p₂ out out) → Does (loop (head-of flag top) count 0 []) rec p₂ (headsOf flag top rec (drop (p₂ .c) rec) count) p₃ out₁ out₂
     → ((number : ℕ) (rec : List ℕ) → Does (aligned number) rec p₃ tt p₄ out₂ out₃) → Does (loop (ptl-slot (headsOf flag top rec (drop (p₄ .c) rec) count)) count 0 tt) rec p₄ tt p₅ out₃ out₄

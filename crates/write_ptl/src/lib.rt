@@ -1,196 +1,15 @@
-// Writes profile, tier and level: profile_tier_level(), and the VPS's section of them.
+// Writes the VPS's section of profile, tier and level: the slots' heads, which stand in the slots, and the slots.
 ghost use mathlib.Core.Path.{_≡_};
-ghost use mathlib.Core.List.{List, []};
+ghost use mathlib.Core.List.{[]};
 ghost use mathlib.Core.Bool.{cond};
-ghost use Prim.Native.Nat.{ℕ};
 ghost use lib.ListN.{drop};
-ghost use Rattle.bits.specs.Bits.{fieldWidth};
-ghost use Rattle.vps_definition.specs.Words.{when, repeat, keeps, loop};
-ghost use Rattle.vps_definition.specs.ProfileTierLevel.{falling, reversed, ahead, constraints, constraints-if, general-constraints-info, profile-and-tier, sub-profiles, profile-tier-level};
+ghost use Rattle.vps_definition.specs.Words.{loop};
 ghost use Rattle.vps_definition.specs.Vps.{Header, ptl-slot, ptl-section};
-ghost use Rattle.ptl_slots.specs.Standing.{standing};
 ghost use Rattle.write_steps.specs.Does.{Does};
-ghost use Rattle.write_ptl.specs.Fields.{kept-field};
-ghost use Rattle.write_ptl.specs.Rest.{from-sublayers, from-level};
-ghost use Rattle.write_ptl.specs.Slots.{head-of, headsOf, Headed, slot-in, Asked, slot-count};
+ghost use Rattle.ptl_tables.specs.Section.{head-of, Asked, slot-count};
+ghost use Rattle.write_ptl.specs.Slots.{headsOf, Headed, slot-in};
 use write_steps::Place;
 use write_steps::Sent;
-
-// The profile and the tier, where they are present.
-fn write_profile_and_tier(rec: &[u32], out: &mut [u8], p: Place, present: u32) -> Place
-    ensures { λ r. ⌜ Does (when present profile-and-tier) (now (rec .entry)) p tt r (now (out .entry)) (now (out .exit)) ⌝ }
-{
-    if present == 0 {
-        return p;
-    }
-    let profile = write_steps::put(rec, out, p, 7);
-    let tier = write_steps::put(rec, out, profile.next, 1);
-    tier.next
-}
-
-// A number of fields of a width up to 32.
-fn write_fields(rec: &[u32], out: &mut [u8], p: Place, count: u32, width: u32) -> Place
-    ensures { λ r. ⌜ Does (repeat count (kept-field (fieldWidth width))) (now (rec .entry)) p tt r (now (out .entry)) (now (out .exit)) ⌝ }
-{
-    let mut next = p;
-    let mut i = 0;
-    while i < count {
-        let field = write_steps::put(rec, out, next, width);
-        next = field.next;
-        if next.bad {
-            return next;
-        }
-        i += 1;
-    }
-    next
-}
-
-// The sub-profiles behind their number, where they are present.
-fn write_sub_profiles(rec: &[u32], out: &mut [u8], p: Place, present: u32) -> Place
-    ensures { λ r. ⌜ Does (when present sub-profiles) (now (rec .entry)) p tt r (now (out .entry)) (now (out .exit)) ⌝ }
-{
-    if present == 0 {
-        return p;
-    }
-    let count = write_steps::put(rec, out, p, 8);
-    write_fields(rec, out, count.next, count.v, 32)
-}
-
-// Numbers that were coded before: those that the record has from a place on.
-fn keep_standing(rec: &[u32], p: Place, from: usize, count: usize) -> Place
-    ensures { λ r. ⌜ ((out : List ℕ) → Does (keeps (standing count 0 (drop from (now (rec .entry))))) (now (rec .entry)) p tt r out out) ⌝ }
-{
-    let mut next = p;
-    let mut i = 0;
-    while i < count {
-        let number = ptl_slots::number_from(rec, from, i);
-        let kept = write_steps::keep(rec, next, number);
-        next = kept.next;
-        if next.bad {
-            return next;
-        }
-        i += 1;
-    }
-    next
-}
-
-// The fixed bits of the constraints, which stand in the record behind their length.
-fn write_fixed(rec: &[u32], out: &mut [u8], p: Place) -> Place
-    ensures { λ r. ⌜ Does (ahead 77 1) (now (rec .entry)) p (standing 77 1 (drop (p .c) (now (rec .entry)))) r (now (out .entry)) (now (out .exit)) ⌝ }
-{
-    let mut next = p;
-    let mut i = 1;
-    while i < 78 {
-        let bit = ptl_slots::number_from(rec, next.c, i);
-        let sent = write_steps::put_late(out, next, 1, bit);
-        next = sent.next;
-        if next.bad {
-            return next;
-        }
-        i += 1;
-    }
-    next
-}
-
-// Fields that stand in the record from here on, coded last first.
-fn write_falling(rec: &[u32], out: &mut [u8], p: Place, count: usize, width: u32) -> Place
-    ensures { λ r. ⌜ Does (falling count (fieldWidth width)) (now (rec .entry)) p (standing count 0 (drop (p .c) (now (rec .entry)))) r (now (out .entry)) (now (out .exit)) ⌝ }
-{
-    let mut next = p;
-    let mut j = count;
-    while 0 < j {
-        j -= 1;
-        let number = ptl_slots::number_from(rec, next.c, j);
-        let sent = write_steps::put_late(out, next, width, number);
-        next = sent.next;
-        if next.bad {
-            return next;
-        }
-    }
-    next
-}
-
-// Fields of a width that stand in the record from here on, coded last first.
-fn write_reversed(rec: &[u32], out: &mut [u8], p: Place, count: usize, width: u32) -> Place
-    ensures { λ r. ⌜ Does (reversed count (fieldWidth width)) (now (rec .entry)) p (standing count 0 (drop (p .c) (now (rec .entry)))) r (now (out .entry)) (now (out .exit)) ⌝ }
-{
-    let from = p.c;
-    let coded = write_falling(rec, out, p, count, width);
-    keep_standing(rec, coded, from, count)
-}
-
-// The constraints' length, and their bits: the fixed ones, and as many more as the last eight of those say.
-fn write_constraints(rec: &[u32], out: &mut [u8], p: Place) -> Place
-    ensures { λ r. ⌜ Does constraints (now (rec .entry)) p tt r (now (out .entry)) (now (out .exit)) ⌝ }
-{
-    let first = ptl_slots::skip_numbers(rec, p.c, 1);
-    let more = (ptl_slots::more_constraints(rec, p.c) % 256) as u32;
-    let fixed = write_fixed(rec, out, p);
-    let length = write_steps::keep(rec, fixed, 77 + more);
-    let kept = keep_standing(rec, length.next, first, 77);
-    write_fields(rec, out, kept, more, 1)
-}
-
-// The constraints where they are present, else their length 0.
-fn write_constraints_if(rec: &[u32], out: &mut [u8], p: Place, present: u32) -> Place
-    ensures { λ r. ⌜ Does (constraints-if present) (now (rec .entry)) p tt r (now (out .entry)) (now (out .exit)) ⌝ }
-{
-    if present == 0 {
-        let none = write_steps::keep(rec, p, 0);
-        return none.next;
-    }
-    write_constraints(rec, out, p)
-}
-
-// Whether there are constraints, they, and the bits to the boundary, where all that is present.
-fn write_general_constraints_info(rec: &[u32], out: &mut [u8], p: Place, present: u32) -> Place
-    ensures { λ r. ⌜ Does (when present general-constraints-info) (now (rec .entry)) p tt r (now (out .entry)) (now (out .exit)) ⌝ }
-{
-    if present == 0 {
-        return p;
-    }
-    let flag = write_steps::put(rec, out, p, 1);
-    let behind = write_constraints_if(rec, out, flag.next, flag.v);
-    write_steps::align(out, behind)
-}
-
-// The sublayers' flags and levels, and the sub-profiles.
-fn write_from_sublayers(rec: &[u32], out: &mut [u8], p: Place, present: u32, max_tid: u32) -> Place
-    ensures { λ r. ⌜ Does (from-sublayers present «max_tid») (now (rec .entry)) p tt r (now (out .entry)) (now (out .exit)) ⌝ }
-{
-    let count = ptl_slots::sum_numbers(rec, p.c, max_tid);
-    let flags = write_reversed(rec, out, p, max_tid as usize, 1);
-    let boundary = write_steps::align(out, flags);
-    let levels = write_reversed(rec, out, boundary, count, 8);
-    write_sub_profiles(rec, out, levels, present)
-}
-
-// The level and the two flags behind it, the constraints, and the rest.
-fn write_from_level(rec: &[u32], out: &mut [u8], p: Place, present: u32, max_tid: u32) -> Place
-    ensures { λ r. ⌜ Does (from-level present «max_tid») (now (rec .entry)) p tt r (now (out .entry)) (now (out .exit)) ⌝ }
-{
-    let level = write_steps::put(rec, out, p, 8);
-    let frame_only = write_steps::put(rec, out, level.next, 1);
-    let multilayer = write_steps::put(rec, out, frame_only.next, 1);
-    let constraints = write_general_constraints_info(rec, out, multilayer.next, present);
-    write_from_sublayers(rec, out, constraints, present, max_tid)
-}
-
-// A slot: its present flag and its max tid, which were coded before, and profile_tier_level().
-pub fn write_profile_tier_level(
-    rec: &[u32],
-    out: &mut [u8],
-    p: Place,
-    present: u32,
-    max_tid: u32,
-) -> Place
-    ensures { λ r. ⌜ Does (profile-tier-level present «max_tid») (now (rec .entry)) p tt r (now (out .entry)) (now (out .exit)) ⌝ }
-{
-    let flag = write_steps::keep(rec, p, present);
-    let tid = write_steps::keep(rec, flag.next, max_tid);
-    let profile = write_profile_and_tier(rec, out, tid.next, present);
-    write_from_level(rec, out, profile, present, max_tid)
-}
 
 // The head of slot i, which stands at a place of the record; the first slot's profile is present, and the default max tid is the highest.
 fn write_head(
@@ -264,7 +83,7 @@ fn write_slot(
     let present = number_if(0 < i, ptl_slots::number_from(rec, p.c, 0), 1);
     let tid = ptl_slots::number_from(rec, p.c, 1);
     let max_tid = number_if(default_max_tid == 0, tid, max_sublayers_minus1);
-    write_profile_tier_level(rec, out, p, present, max_tid)
+    write_profile::write_profile_tier_level(rec, out, p, present, max_tid)
 }
 
 // All slots.

@@ -7,7 +7,8 @@ use mathlib.Core.List.{[]}
 use Rattle.vps_definition.specs.Words.{loop}
 use Rattle.read_steps.specs.Meets.{Meets}
 use Rattle.read_steps.specs.Laws.{meets-break}
-use Rattle.read_ptl.specs.Slots.{head-of, headsAt, Heading, heads-begin, heads-turn}
+use Rattle.ptl_tables.specs.Section.{head-of}
+use Rattle.read_ptl.specs.Slots.{headsAt, Heading, heads-begin, heads-turn}
 use Rattle.read_ptl.proofs.read_heads.Statement.{statement}
 use Rattle.read_ptl.proofs.read_heads.Tie as tie
 

@@ -4,7 +4,8 @@ use native.Mathlib.Omega.{arith}
 use mathlib.Core.List.{[]}
 use Rattle.read_steps.specs.Laws.{meets-as, meets-then, meets-done}
 use Rattle.read_ptl.specs.Results.{stays-both, was-accepted, meets-when}
-use Rattle.read_ptl.specs.Slots.{left-all, section-asked}
+use Rattle.ptl_tables.specs.Section.{section-asked}
+use Rattle.read_ptl.specs.Slots.{left-all}
 use Rattle.read_ptl.proofs.read_ptl_section.Statement.{statement}
 use Rattle.read_ptl.proofs.read_ptl_section.Tie as tie
 

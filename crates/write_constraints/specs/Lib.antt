@@ -1,0 +1,4 @@
+pub mod Ends
+pub mod Fields
+pub mod Late
+pub mod Constraints
