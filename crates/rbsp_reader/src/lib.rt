@@ -96,27 +96,3 @@ impl<'a> BitReader<'a> {
         answer
     }
 }
-
-// The field at a place, read by a reader that is made here: a caller holds none.
-pub fn read_field(bytes: &[u8], at: usize, width: u32) -> Read
-    ensures { λ r. ⌜ readAnswer r ≡ readField (now (bytes .entry)) at width ⌝ }
-{
-    let mut reader = BitReader { bytes, bit_pos: at };
-    reader.u(width)
-}
-
-// The code at a place, likewise.
-pub fn read_code(bytes: &[u8], at: usize) -> Read
-    ensures { λ r. ⌜ readAnswer r ≡ readCode (now (bytes .entry)) at ⌝ }
-{
-    let mut reader = BitReader { bytes, bit_pos: at };
-    reader.ue()
-}
-
-// The trailing bits at a place, likewise.
-pub fn read_trailing(bytes: &[u8], at: usize) -> Moved
-    ensures { λ r. ⌜ movedAnswer r ≡ readTrailing (now (bytes .entry)) at ⌝ }
-{
-    let mut reader = BitReader { bytes, bit_pos: at };
-    reader.read_rbsp_trailing_bits()
-}

@@ -59,7 +59,7 @@ fn extension_bits(bytes: &[u8], flag: u32, at: usize) -> usize
 fn read_end(bytes: &[u8], at: usize) -> Moved
     ensures { λ r. ⌜ (at < 2 ^ 63 → movedAnswer r ≡ trailingAt (now (bytes .entry)) at) ⌝ }
 {
-    rbsp_reader::read_trailing(bytes, at)
+    rbsp_fields::read_trailing(bytes, at)
 }
 
 // The first pass: nothing is stored.

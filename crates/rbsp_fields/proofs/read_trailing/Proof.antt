@@ -1,5 +1,5 @@
--- `rbsp_reader::read_code` meets its contract: a walk of its MIR, by hand. A reader is made in a local of the slice and the place passed, lent to `ue`, and taken back. All that the proof knows of `ue` is that it meets its contract.
--- `ue` asks that 'a outlives the loan: the local is lent for ν ∷ κ, the meet of a lifetime ν that the walk makes and the slice's κ. Half of κ's token goes into that of the meet, and half is the callee's for 'a.
+-- `rbsp_fields::read_trailing` meets its contract: a walk of its MIR, by hand. A reader is made in a local of the slice and the place passed, lent to `read_rbsp_trailing_bits`, and taken back. All that the proof knows of `read_rbsp_trailing_bits` is that it meets its contract.
+-- `read_rbsp_trailing_bits` asks that 'a outlives the loan: the local is lent for ν ∷ κ, the meet of a lifetime ν that the walk makes and the slice's κ. Half of κ's token goes into that of the meet, and half is the callee's for 'a.
 -- Assumes nothing.
 use mathlib.Core.Path.{_≡_, refl}
 use Prim.Native.Nat.{ℕ, _<_, _^_}
@@ -42,23 +42,23 @@ use denote.Triple.Table.{entered, cited}
 use denote.Triple.Walked.{says, Stays, stay-none, stay-none-slice, walkOf, goes-none, goes-none-slice, Walks, ends-at, walked, walk-meets}
 use denote.Exit.{yes}
 use denote.Triple.Clauses.{ensured, lasts}
-use Rattle.bits.specs.Reading.{readCode}
-use Rattle.bit_reader.specs.Answers.{readAnswer}
-use Rattle.bit_reader.specs.declared.Read.{Read}
-use Rattle.bit_reader.proofs.Read as S
-use Rattle.bit_reader.proofs.Read.Laws as S′
-use Rattle.rbsp_reader.specs.Places.{takenPlace, standsAt}
+use Rattle.bits.specs.Reading.{readTrailing}
+use Rattle.bit_reader.specs.Answers.{movedAnswer}
+use Rattle.bit_reader.specs.declared.Moved.{Moved}
+use Rattle.bit_reader.proofs.Moved as S
+use Rattle.bit_reader.proofs.Moved.Laws as S′
+use Rattle.rbsp_reader.specs.Places.{movedPlace, standsAt}
 use Rattle.rbsp_reader.specs.declared.BitReader.{BitReader}
 use Rattle.rbsp_reader.proofs.Held.{B, Own, OwnSlice, sliceOf, holds, lies-in, lies-out}
 use Rattle.rbsp_reader.proofs.BitReader.Laws as T′
-use Rattle.rbsp_reader.proofs.BitReader.ue as step
-use Rattle.rbsp_reader.proofs.BitReader.ue.Symbol as step-def
-use Rattle.rbsp_reader.proofs.BitReader.ue.Symbol.{name as #step}
-use Rattle.rbsp_reader.proofs.BitReader.ue.Met as step-thm
-use Rattle.rbsp_reader.proofs.read_code.Key.{name as #read}
-use Rattle.rbsp_reader.proofs.read_code as read
-use Rattle.rbsp_reader.proofs.read_code.Statement as stated
-use Rattle.rbsp_reader.proofs.read_code.Code as code
+use Rattle.rbsp_reader.proofs.BitReader.read_rbsp_trailing_bits as step
+use Rattle.rbsp_reader.proofs.BitReader.read_rbsp_trailing_bits.Symbol as step-def
+use Rattle.rbsp_reader.proofs.BitReader.read_rbsp_trailing_bits.Symbol.{name as #step}
+use Rattle.rbsp_reader.proofs.BitReader.read_rbsp_trailing_bits.Met as step-thm
+use Rattle.rbsp_fields.proofs.read_trailing.Key.{name as #read}
+use Rattle.rbsp_fields.proofs.read_trailing as read
+use Rattle.rbsp_fields.proofs.read_trailing.Statement as stated
+use Rattle.rbsp_fields.proofs.read_trailing.Code as code
 
 abbrev stayed : Stays (read.ended .signature .params) (read.ended .kept)
 stayed = (stay-none-slice (0 ∷ []) tt (plain (λ _. u8)) yes, (stay-none (λ _. usize) yes, tt))
@@ -91,7 +91,7 @@ module _ {M : Type 1} (𝓤 : URA M) (H : Heap 𝓤) (A : Atoms 𝓤) (W : Given
   abbrev OwnS : Fml
   OwnS = OwnSlice κ start
 
-  -- `ue`, with the reader at l lent for ν ∷ κ under the name δ
+  -- `read_rbsp_trailing_bits`, with the reader at l lent for ν ∷ κ under the name δ
   abbrev lent : ℕ → GName → RefT BitReader
   lent l δ = record { ptr = (l, 0); name = δ; now = start }
 
@@ -104,10 +104,10 @@ module _ {M : Type 1} (𝓤 : URA M) (H : Heap 𝓤) (A : Atoms 𝓤) (W : Given
       nothing ! $ move ! (2 ∷ 0 ∷ []) $ join ! $ move ! (1 ∷ 0 ∷ []) $ join ! $ nothing ! $ move ! (2 ∷ 0 ∷ []) $ fjoin ! $ move ! (1 ∷ 0 ∷ []) $ join ! $ frame ! $ done !
 
   -- what is known of the answer, and of the reader when it comes back
-  abbrev Said : Read → BitReader → Type 0
-  Said r z = (readAnswer r ≡ readCode (now s) m) × (z ≡ standsAt start (takenPlace (readAnswer r) m))
+  abbrev Said : Moved → BitReader → Type 0
+  Said r z = (movedAnswer r ≡ readTrailing (now s) m) × (z ≡ standsAt start (movedPlace (movedAnswer r) m))
 
-  exits : (r : Read) (u : Val) → Is S.the-row r (u ∷ []) → readAnswer r ≡ readCode (now s) m → ent 𝓤 (⋆ 𝓤 H A (‵ (flft κ q) ∷ ‵ OwnS ∷ [])) (Post u)
+  exits : (r : Moved) (u : Val) → Is S.the-row r (u ∷ []) → movedAnswer r ≡ readTrailing (now s) m → ent 𝓤 (⋆ 𝓤 H A (‵ (flft κ q) ∷ ‵ OwnS ∷ [])) (Post u)
   exits r u is e =
       qed W (‵ (flft κ q) ∷ ‵ OwnS ∷ []) ∵
       suffices ! _ (ends-at 𝓤 H A read.ended stayed (read.clauses 𝓤 H A at-mem run) W (((κ, tt), (q, tt), tt, x, at), tt) u r (tt, (tt, tt)) (tt, (tt, tt))) $ says ! e $
@@ -134,7 +134,7 @@ module _ {M : Type 1} (𝓤 : URA M) (H : Heap 𝓤) (A : Atoms 𝓤) (W : Given
         move ! (2 ∷ 4 ∷ 0 ∷ []) $ use3 W (raw (Step 𝓤 H A at-mem run .pre (to-step ν l₃ δ))) (goes-step ν l₃ δ) $
         -- [what the callee asks; the lender's part; ν's way back; true; what s owns; _4; …; (_3's room); _2; …; _1; …; room for _0; …]
         calls-at ! fm (Step 𝓤 H A at-mem run) known (to-step ν l₃ δ) (and-then ! (load ! (from ! (stop !)) (look ! 5 refl)) (no-more !)) (λ u.
-        use1 W (later (some (λ (r : Read). ((‵ (flft (ν ∷ κ) qₗ) ⊛ ‵ (flft κ qᵣ) ⊛ ‵ ftrue) ⊛ ‵ (S.the-row .own r (u ∷ []))) ⊛ raw (ensured 𝓤 H A step.ended (step.clauses 𝓤 H A at-mem run) (ν ∷ κ, (κ, tt)) (lent l₃ δ, tt) tt r)))) (id⊢ 𝓤 _) $ await ! tt $ pick ! (λ r.
+        use1 W (later (some (λ (r : Moved). ((‵ (flft (ν ∷ κ) qₗ) ⊛ ‵ (flft κ qᵣ) ⊛ ‵ ftrue) ⊛ ‵ (S.the-row .own r (u ∷ []))) ⊛ raw (ensured 𝓤 H A step.ended (step.clauses 𝓤 H A at-mem run) (ν ∷ κ, (κ, tt)) (lent l₃ δ, tt) tt r)))) (id⊢ 𝓤 _) $ await ! tt $ pick ! (λ r.
         split ! $ move ! (1 ∷ []) $ use1 W (some (λ (zs : BitReader × Unit {0}). ‵ (lasts step.ended (ν ∷ κ, (κ, tt)) (lent l₃ δ, tt) zs) ⊛ raw (fact 𝓤 (Said r (zs .0))))) (id⊢ 𝓤 _) $ pick ! (λ zs.
         split ! $ move ! (1 ∷ []) $ heard ! (Said r (zs .0)) (λ e. fsplit ! $
         -- [the reader's last value; true; the tokens and the answer; the lender's part; ν's way back; true; what s owns; _4; …]
@@ -160,10 +160,10 @@ read-meets : {M : Type 1} (𝓤 : URA M) (H : Heap 𝓤) (A : Atoms 𝓤) (W : G
 read-meets 𝓤 H A W mem run 𝓣 known = walk-meets 𝓤 H A read.ended stayed W (goes-none-slice 𝓤 H A W 1 (0 ∷ []) tt (plain (λ _. u8)) yes, (goes-none 𝓤 H A W 1 (λ _. usize) yes (λ κs x f. refl), tt))
     (read.clauses 𝓤 H A mem run) (WpFn 𝓤 H (𝓣 .C) (𝓣 .Λ) code.function) (WpFn-mono 𝓤 H (W .laws) 𝓣 code.function) (read-walks 𝓤 H A W mem run (𝓣 .C) (𝓣 .Λ) (fmOf 𝓤 H (W .laws) 𝓣) known)
 
-pub read-code-spec : {M : Type 1} → stated.statement M
+pub read-trailing-spec : {M : Type 1} → stated.statement M
 unfolding code.routine tablesOf
-read-code-spec 𝓤 H 𝓜 𝓖 𝓡 =
+read-trailing-spec 𝓤 H 𝓜 𝓖 𝓡 =
     entered 𝓤 H (tripleOf 𝓤 H (𝓖 .A) read.signature (read.spec 𝓤 H (𝓖 .A) (𝓜 .mem) (𝓡 .run)))
     (tables 𝓤 H 𝓜 𝓡 code.env .C) (tables 𝓤 H 𝓜 𝓡 code.env .Λ) #read code.function (code.unfolded 𝓤 H 𝓜 𝓡)
     (read-meets 𝓤 H (𝓖 .A) (givenOf 𝓤 H 𝓜 𝓖) (𝓜 .mem) (𝓡 .run) (tablesOf 𝓤 H 𝓜 (tables 𝓤 H 𝓜 𝓡 code.env))
-    (cited 𝓤 H (Step 𝓤 H (𝓖 .A) (𝓜 .mem) (𝓡 .run)) 𝓜 𝓡 code.env #step step-def.routine code.calls-rbsp-reader·BitReader·ue (step-thm.met 𝓤 H 𝓜 𝓖 𝓡)))
+    (cited 𝓤 H (Step 𝓤 H (𝓖 .A) (𝓜 .mem) (𝓡 .run)) 𝓜 𝓡 code.env #step step-def.routine code.calls-rbsp-reader·BitReader·read-rbsp-trailing-bits (step-thm.met 𝓤 H 𝓜 𝓖 𝓡)))

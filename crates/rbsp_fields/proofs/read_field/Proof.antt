@@ -1,4 +1,4 @@
--- `rbsp_reader::read_field` meets its contract: a walk of its MIR, by hand. A reader is made in a local of the slice and the place passed, lent to `u`, and taken back. All that the proof knows of `u` is that it meets its contract.
+-- `rbsp_fields::read_field` meets its contract: a walk of its MIR, by hand. A reader is made in a local of the slice and the place passed, lent to `u`, and taken back. All that the proof knows of `u` is that it meets its contract.
 -- `u` asks that 'a outlives the loan: the local is lent for ν ∷ κ, the meet of a lifetime ν that the walk makes and the slice's κ. Half of κ's token goes into that of the meet, and half is the callee's for 'a.
 -- Assumes nothing.
 use mathlib.Core.Path.{_≡_, refl}
@@ -47,18 +47,18 @@ use Rattle.bit_reader.specs.Answers.{readAnswer}
 use Rattle.bit_reader.specs.declared.Read.{Read}
 use Rattle.bit_reader.proofs.Read as S
 use Rattle.bit_reader.proofs.Read.Laws as S′
 use Rattle.rbsp_reader.specs.Places.{takenPlace, standsAt}
 use Rattle.rbsp_reader.specs.declared.BitReader.{BitReader}
 use Rattle.rbsp_reader.proofs.Held.{B, Own, OwnSlice, sliceOf, holds, lies-in, lies-out}
 use Rattle.rbsp_reader.proofs.BitReader.Laws as T′
 use Rattle.rbsp_reader.proofs.BitReader.u as step
 use Rattle.rbsp_reader.proofs.BitReader.u.Symbol as step-def
 use Rattle.rbsp_reader.proofs.BitReader.u.Symbol.{name as #step}
 use Rattle.rbsp_reader.proofs.BitReader.u.Met as step-thm
-use Rattle.rbsp_reader.proofs.read_field.Key.{name as #read}
-use Rattle.rbsp_reader.proofs.read_field as read
-use Rattle.rbsp_reader.proofs.read_field.Statement as stated
-use Rattle.rbsp_reader.proofs.read_field.Code as code
+use Rattle.rbsp_fields.proofs.read_field.Key.{name as #read}
+use Rattle.rbsp_fields.proofs.read_field as read
+use Rattle.rbsp_fields.proofs.read_field.Statement as stated
+use Rattle.rbsp_fields.proofs.read_field.Code as code
 
 abbrev stayed : Stays (read.ended .signature .params) (read.ended .kept)
 stayed = (stay-none-slice (0 ∷ []) tt (plain (λ _. u8)) yes, (stay-none (λ _. usize) yes, (stay-none (λ _. u32) yes, tt)))
