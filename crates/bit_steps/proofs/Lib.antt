@@ -1,4 +1,3 @@
-pub mod FromCore
 pub mod LentPlace
 pub mod NoNumber
 pub mod OneNumber

@@ -45,10 +45,10 @@ use Rattle.bits.specs.Bits.{bitsOf}
 use Rattle.bits.specs.Writing.{fieldGood}
 use Rattle.bit_writer.specs.declared.WritePlace.{WritePlace}
 use Rattle.bit_writer.proofs.WritePlace as T
-use Rattle.bit_steps.specs.Answers.{Steps}
-use Rattle.bit_steps.specs.declared.Stepped.{Stepped}
-use Rattle.bit_steps.proofs.Stepped as S
-use Rattle.bit_steps.proofs.Stepped.Laws as S′
+use Rattle.bit_outcomes.specs.Answers.{Steps}
+use Rattle.bit_outcomes.specs.declared.Stepped.{Stepped}
+use Rattle.bit_outcomes.proofs.Stepped as S
+use Rattle.bit_outcomes.proofs.Stepped.Laws as S′
 use Rattle.bit_steps.proofs.LentPlace.{placed, lies-in, lies-out}
 use Rattle.bit_steps.proofs.put_bits as put
 use Rattle.bit_steps.proofs.put_bits.Symbol as put-def

@@ -1,8 +1,8 @@
 -- `ue_stepped` meets its contract: what the core wrote, by its answer.
 use borrow.Author.Needs.{needs}
-use Rattle.bit_steps.proofs.FromCore.{steps-of}
-use Rattle.bit_steps.proofs.ue_stepped.Statement.{statement}
-use Rattle.bit_steps.proofs.ue_stepped.Tie as tie
+use Rattle.bit_outcomes.proofs.FromCore.{steps-of}
+use Rattle.bit_outcomes.proofs.ue_stepped.Statement.{statement}
+use Rattle.bit_outcomes.proofs.ue_stepped.Tie as tie
 
 write-ue-requires : tie.Need-write-ue-requires
 write-ue-requires c κs = search needs

@@ -1,8 +1,8 @@
 -- `alignment_stepped` meets its contract: what the core wrote, by its answer.
 use borrow.Author.Needs.{needs}
-use Rattle.bit_steps.proofs.FromCore.{steps-of}
-use Rattle.bit_steps.proofs.alignment_stepped.Statement.{statement}
-use Rattle.bit_steps.proofs.alignment_stepped.Tie as tie
+use Rattle.bit_outcomes.proofs.FromCore.{steps-of}
+use Rattle.bit_outcomes.proofs.alignment_stepped.Statement.{statement}
+use Rattle.bit_outcomes.proofs.alignment_stepped.Tie as tie
 
 align-to-byte-requires : tie.Need-align-to-byte-requires
 align-to-byte-requires c κs = search needs

@@ -1,8 +1,8 @@
 -- `trailing_stepped` meets its contract: what the core wrote, by its answer.
 use borrow.Author.Needs.{needs}
-use Rattle.bit_steps.proofs.FromCore.{steps-of}
-use Rattle.bit_steps.proofs.trailing_stepped.Statement.{statement}
-use Rattle.bit_steps.proofs.trailing_stepped.Tie as tie
+use Rattle.bit_outcomes.proofs.FromCore.{steps-of}
+use Rattle.bit_outcomes.proofs.trailing_stepped.Statement.{statement}
+use Rattle.bit_outcomes.proofs.trailing_stepped.Tie as tie
 
 write-rbsp-trailing-bits-requires : tie.Need-write-rbsp-trailing-bits-requires
 write-rbsp-trailing-bits-requires c κs = search needs

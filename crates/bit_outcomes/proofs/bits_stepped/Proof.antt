@@ -1,8 +1,8 @@
 -- `bits_stepped` meets its contract: what the core wrote, by its answer.
 use borrow.Author.Needs.{needs}
-use Rattle.bit_steps.proofs.FromCore.{steps-of}
-use Rattle.bit_steps.proofs.bits_stepped.Statement.{statement}
-use Rattle.bit_steps.proofs.bits_stepped.Tie as tie
+use Rattle.bit_outcomes.proofs.FromCore.{steps-of}
+use Rattle.bit_outcomes.proofs.bits_stepped.Statement.{statement}
+use Rattle.bit_outcomes.proofs.bits_stepped.Tie as tie
 
 write-bits-requires : tie.Need-write-bits-requires
 write-bits-requires c κs = search needs

@@ -1,8 +1,8 @@
 -- `bit_stepped` meets its contract: what the core wrote, by its answer.
 use borrow.Author.Needs.{needs}
-use Rattle.bit_steps.proofs.FromCore.{steps-of}
-use Rattle.bit_steps.proofs.bit_stepped.Statement.{statement}
-use Rattle.bit_steps.proofs.bit_stepped.Tie as tie
+use Rattle.bit_outcomes.proofs.FromCore.{steps-of}
+use Rattle.bit_outcomes.proofs.bit_stepped.Statement.{statement}
+use Rattle.bit_outcomes.proofs.bit_stepped.Tie as tie
 
 write-bit-requires : tie.Need-write-bit-requires
 write-bit-requires c κs = search needs

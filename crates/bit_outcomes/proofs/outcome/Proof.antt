@@ -1,7 +1,7 @@
 -- `outcome` meets its contract, by the answer's two cases.
 use borrow.Author.Needs.{needs}
-use Rattle.bit_steps.proofs.outcome.Statement.{statement}
-use Rattle.bit_steps.proofs.outcome.Tie as tie
+use Rattle.bit_outcomes.proofs.outcome.Statement.{statement}
+use Rattle.bit_outcomes.proofs.outcome.Tie as tie
 
 enum-known-w : tie.Need-enum-known-w
 enum-known-w c = search needs
