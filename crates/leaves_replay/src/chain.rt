@@ -8,11 +8,11 @@ use crate::writing::is_wrote;
 use crate::writing::write;
 use bit_reader::ReadPlace;
 use bit_writer::WritePlace;
-use replay_list::behind;
-use replay_list::byte_at;
-use replay_list::first;
-use replay_list::four_bytes;
-use replay_list::two_bytes;
+use replay_numbers::four_bytes;
+use replay_numbers::two_bytes;
+use replay_parts::behind;
+use replay_parts::byte_at;
+use replay_parts::first;
 
 // The step at an index of the steps.
 fn step_at(steps: &[u8], i: u32) -> &[u8] {

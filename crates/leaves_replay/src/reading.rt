@@ -3,10 +3,10 @@ use bit_reader::Asked;
 use bit_reader::Moved;
 use bit_reader::Read;
 use bit_reader::ReadPlace;
-use replay_list::behind;
-use replay_list::byte_at;
-use replay_list::eight_bytes;
-use replay_list::four_bytes;
+use replay_numbers::eight_bytes;
+use replay_numbers::four_bytes;
+use replay_parts::behind;
+use replay_parts::byte_at;
 
 const BIT_AT: u8 = 4;
 

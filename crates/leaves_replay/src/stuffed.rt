@@ -1,10 +1,10 @@
 // Cases of stuffing. Adding and removing: number, bytes written, length of the input, the input, the output afterwards.
 // Measuring: the length, the input.
-use replay_list::behind;
-use replay_list::byte_at;
-use replay_list::first;
-use replay_list::pattern;
-use replay_list::two_bytes;
+use replay_numbers::pattern;
+use replay_numbers::two_bytes;
+use replay_parts::behind;
+use replay_parts::byte_at;
+use replay_parts::first;
 use stuffing::Stuffed;
 
 const UNSTUFF: u8 = 1;

@@ -2,11 +2,11 @@
 use crate::content::copy;
 use bit_writer::WritePlace;
 use bit_writer::Wrote;
-use replay_list::behind;
-use replay_list::byte_at;
-use replay_list::eight_bytes;
-use replay_list::first;
-use replay_list::four_bytes;
+use replay_numbers::eight_bytes;
+use replay_numbers::four_bytes;
+use replay_parts::behind;
+use replay_parts::byte_at;
+use replay_parts::first;
 
 // Steps of the writer; the trailing bits are the fifth.
 const BIT: u8 = 1;

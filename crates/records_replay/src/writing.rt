@@ -3,10 +3,10 @@ ghost use Prim.Native.Nat.{_<_};
 use crate::buffers::fill_output;
 use crate::buffers::fill_record;
 use crate::buffers::is_output_same;
-use replay_list::behind;
-use replay_list::first;
-use replay_list::next_place;
-use replay_list::number_at;
+use replay_numbers::next_place;
+use replay_numbers::number_at;
+use replay_parts::behind;
+use replay_parts::first;
 use vps_writer::Written;
 use vps_writer::write_vps_nal;
 

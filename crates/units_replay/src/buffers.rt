@@ -1,7 +1,7 @@
 // The unit and the lent buffers of a case: how they are before the call, and whether they are as recorded after it.
-use replay_list::next_place;
-use replay_list::number_at;
-use replay_list::pattern;
+use replay_numbers::next_place;
+use replay_numbers::number_at;
+use replay_numbers::pattern;
 
 fn wide(b: u8) -> u32 {
     b as u32

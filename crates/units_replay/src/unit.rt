@@ -7,11 +7,11 @@ use crate::buffers::fill_work;
 use crate::buffers::is_record_same;
 use crate::buffers::is_work_same;
 use refusals::RECORD_TOO_SHORT;
-use replay_list::behind;
-use replay_list::byte_at;
-use replay_list::first;
-use replay_list::four_bytes;
-use replay_list::two_bytes;
+use replay_numbers::four_bytes;
+use replay_numbers::two_bytes;
+use replay_parts::behind;
+use replay_parts::byte_at;
+use replay_parts::first;
 use vps_reader::Parsed;
 use vps_reader::parse_vps;
 

@@ -5,8 +5,8 @@ use native.Mathlib.Omega.{arith}
 use lib.ListN.{length, drop, length-drop, drop-of-length-le}
 use lib.Seq.{take-all}
 use borrow.Author.Needs.{needs}
-use Rattle.replay_list.proofs.behind.Statement.{statement}
-use Rattle.replay_list.proofs.behind.Tie as tie
+use Rattle.replay_parts.proofs.behind.Statement.{statement}
+use Rattle.replay_parts.proofs.behind.Tie as tie
 
 sub-result : tie.Need-sub-result
 sub-result c = search needs

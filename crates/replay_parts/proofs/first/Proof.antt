@@ -6,8 +6,8 @@ use native.Mathlib.Omega.{arith}
 use lib.ListN.{take}
 use lib.Seq.{take-all}
 use borrow.Author.Needs.{needs}
-use Rattle.replay_list.proofs.first.Statement.{statement}
-use Rattle.replay_list.proofs.first.Tie as tie
+use Rattle.replay_parts.proofs.first.Statement.{statement}
+use Rattle.replay_parts.proofs.first.Tie as tie
 
 sub-result : tie.Need-sub-result
 sub-result c = search needs

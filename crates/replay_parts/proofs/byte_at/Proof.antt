@@ -3,8 +3,8 @@ use mathlib.Core.Path.{sym}
 use native.Mathlib.Omega.{arith}
 use lib.ListN.{List·getD-eq-default}
 use borrow.Author.Needs.{needs}
-use Rattle.replay_list.proofs.byte_at.Statement.{statement}
-use Rattle.replay_list.proofs.byte_at.Tie as tie
+use Rattle.replay_parts.proofs.byte_at.Statement.{statement}
+use Rattle.replay_parts.proofs.byte_at.Tie as tie
 
 shared-slice-read-wide : tie.Need-shared-slice-read-wide
 shared-slice-read-wide c = search needs

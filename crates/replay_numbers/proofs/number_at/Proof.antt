@@ -3,9 +3,9 @@ use mathlib.Core.Path.{sym, ap, _∙_}
 use native.Mathlib.Omega.{arith}
 use lib.ListN.{drop}
 use borrow.Author.Needs.{needs}
-use Rattle.replay_list.specs.Numbers.{four, number-of-byte, number-of-four}
-use Rattle.replay_list.proofs.number_at.Statement.{statement}
-use Rattle.replay_list.proofs.number_at.Tie as tie
+use Rattle.replay_numbers.specs.Numbers.{four, number-of-byte, number-of-four}
+use Rattle.replay_numbers.proofs.number_at.Statement.{statement}
+use Rattle.replay_numbers.proofs.number_at.Tie as tie
 
 byte-at-requires : tie.Need-byte-at-requires
 byte-at-requires c κs = search needs

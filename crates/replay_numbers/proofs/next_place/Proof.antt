@@ -2,9 +2,9 @@
 use mathlib.Core.Path.{sym}
 use native.Mathlib.Omega.{arith}
 use borrow.Author.Needs.{needs}
-use Rattle.replay_list.specs.Numbers.{place-past-end, place-behind-byte, place-behind-four}
-use Rattle.replay_list.proofs.next_place.Statement.{statement}
-use Rattle.replay_list.proofs.next_place.Tie as tie
+use Rattle.replay_numbers.specs.Numbers.{place-past-end, place-behind-byte, place-behind-four}
+use Rattle.replay_numbers.proofs.next_place.Statement.{statement}
+use Rattle.replay_numbers.proofs.next_place.Tie as tie
 
 returns : tie.Need-returns
 returns c = sym (place-past-end (c .before .before .args .numbers .now) (c .before .before .args .at) (c .if1 .taken))

@@ -1,10 +1,10 @@
 -- `four_bytes` meets its contract.
 use Prim.Native.Nat.{_+_, _*_}
 use mathlib.Core.Path.{ap, _∙_}
-use Rattle.replay_list.specs.Numbers.{two, four}
+use Rattle.replay_numbers.specs.Numbers.{two, four}
 use borrow.Author.Needs.{needs}
-use Rattle.replay_list.proofs.four_bytes.Statement.{statement}
-use Rattle.replay_list.proofs.four_bytes.Tie as tie
+use Rattle.replay_numbers.proofs.four_bytes.Statement.{statement}
+use Rattle.replay_numbers.proofs.four_bytes.Tie as tie
 
 two-bytes-requires : tie.Need-two-bytes-requires
 two-bytes-requires c κs = search needs

@@ -1,10 +1,10 @@
 -- `eight_bytes` meets its contract.
 use Prim.Native.Nat.{_+_, _*_}
 use mathlib.Core.Path.{ap, _∙_}
-use Rattle.replay_list.specs.Numbers.{four, eight}
+use Rattle.replay_numbers.specs.Numbers.{four, eight}
 use borrow.Author.Needs.{needs}
-use Rattle.replay_list.proofs.eight_bytes.Statement.{statement}
-use Rattle.replay_list.proofs.eight_bytes.Tie as tie
+use Rattle.replay_numbers.proofs.eight_bytes.Statement.{statement}
+use Rattle.replay_numbers.proofs.eight_bytes.Tie as tie
 
 four-bytes-requires : tie.Need-four-bytes-requires
 four-bytes-requires c κs = search needs
