@@ -1,56 +1,12 @@
-// Writes the timing section of the VPS: ols_timing_hrd_parameters() for each entry, and which entry each set has.
+// Writes the timing section of the VPS: its entries, and which entry each set has.
 ghost use Rattle.refusals.specs.Number.{timing-max-tid};
-ghost use Rattle.vps_definition.specs.Words.{when, repeat};
+ghost use Rattle.vps_definition.specs.Words.{repeat};
 ghost use Rattle.vps_definition.specs.DpbParameters.{per-sublayer};
-ghost use Rattle.vps_definition.specs.TimingHrd.{sublayer-hrd, timing-sublayer, timing-section};
+ghost use Rattle.vps_definition.specs.TimingHrd.{timing-sublayer, timing-section};
 ghost use Rattle.write_steps.specs.Does.{Does};
 ghost use Rattle.vps_entries.specs.Hrd.{hrd-of};
 use vps_entries::Hrd;
 use write_steps::Place;
-
-// sublayer_hrd_parameters() where a flag is set.
-fn write_sublayer_hrd_if(rec: &[u32], out: &mut [u8], p: Place, flag: u32, hrd: Hrd) -> Place
-    ensures { λ r. ⌜ Does (when flag (sublayer-hrd (hrd-of hrd))) (now (rec .entry)) p tt r (now (out .entry)) (now (out .exit)) ⌝ }
-{
-    if flag == 0 {
-        return p;
-    }
-    write_hrd::write_sublayer_hrd(rec, out, p, hrd)
-}
-
-// A sublayer of ols_timing_hrd_parameters().
-fn write_timing_sublayer(rec: &[u32], out: &mut [u8], p: Place, hrd: Hrd) -> Place
-    ensures { λ r. ⌜ Does (timing-sublayer (hrd-of hrd)) (now (rec .entry)) p tt r (now (out .entry)) (now (out .exit)) ⌝ }
-{
-    let general = write_steps::put(rec, out, p, 1);
-    let within = write_steps::put_if(rec, out, general.next, general.v == 0, 1, 1);
-    let duration = write_steps::put_code_if(rec, out, within.next, within.v == 1, 0);
-    let held = write_steps::hold(duration.next, duration.v <= 2047);
-    let coded = vps_entries::is_low_delay_coded(
-        within.v,
-        vps_entries::is_hrd_present(hrd.nal, hrd.vcl),
-        hrd.cpb_cnt_minus1,
-    );
-    let delay = write_steps::put_if(rec, out, held, coded, 1, 0);
-    let nal = write_sublayer_hrd_if(rec, out, delay.next, hrd.nal, hrd);
-    write_sublayer_hrd_if(rec, out, nal, hrd.vcl, hrd)
-}
-
-// ols_timing_hrd_parameters(): so many sublayers, up to a bad place.
-pub fn write_ols_timing_hrd(rec: &[u32], out: &mut [u8], p: Place, turns: u64, hrd: Hrd) -> Place
-    ensures { λ r. ⌜ Does (repeat turns (timing-sublayer (hrd-of hrd))) (now (rec .entry)) p tt r (now (out .entry)) (now (out .exit)) ⌝ }
-{
-    let mut at = p;
-    let mut i: u64 = 0;
-    while i < turns {
-        at = write_timing_sublayer(rec, out, at, hrd);
-        i += 1;
-        if at.bad {
-            return at;
-        }
-    }
-    at
-}
 
 // A timing entry: its max tid, and then its sublayers.
 fn write_timing_entry(
@@ -66,7 +22,7 @@ fn write_timing_entry(
 {
     let tid = write_entries::write_max_tid(rec, out, p, default_max_tid_flag, max_sublayers_minus1);
     let turns = vps_entries::turns(flag, tid.v);
-    write_ols_timing_hrd(rec, out, tid.next, turns, hrd)
+    write_ols_timing::write_ols_timing_hrd(rec, out, tid.next, turns, hrd)
 }
 
 // The timing entries, up to a bad place.
