@@ -1,11 +1,15 @@
 // Reads bits, fields and codes of a byte slice from a place that goes in and comes back by value.
 ghost use mathlib.Core.Path.{_≡_};
-ghost use Prim.Native.Nat.{_+_, _*_, _-_, _^_, _<_, _≤_};
-ghost use lib.ListN.{length, getD};
-ghost use Rattle.bits.specs.Bits.{bitAt, fieldAt, fieldWidth};
+ghost use Prim.Native.Nat.{_*_, _-_, _^_, _<_};
+ghost use lib.ListN.{length};
+ghost use Rattle.bits.specs.Bits.{fieldAt, fieldWidth};
 ghost use Rattle.bits.specs.Code.{codeAt};
 ghost use Rattle.bits.specs.Reading.{readField, readCode, readAlignment, askAligned, askMoreData, readTrailing};
 ghost use Rattle.bit_reader.specs.Answers.{readAnswer, movedAnswer, askedAnswer};
+use bit_fields::bit_at;
+use bit_fields::field_at;
+use bit_fields::window_at;
+use bit_fields::window_start;
 use refusals::ALIGNMENT_BIT_ONE;
 use refusals::CODE_TOO_LONG;
 use refusals::NOT_WELL_FORMED;
@@ -40,86 +44,6 @@ pub enum Asked {
     Refused(u32),
 }
 
-// The byte at an index; 0 past the end.
-fn byte_at(bytes: &[u8], i: usize) -> u8
-    ensures { λ r. ⌜ r ≡ getD (now (bytes .entry)) i 0 ⌝ }
-{
-    if i < bytes.len() { bytes[i] } else { 0 }
-}
-
-// Five bytes as one number, the first of them highest.
-fn joined(first: u8, second: u8, third: u8, fourth: u8, fifth: u8) -> u64
-    ensures { λ r. ⌜ r ≡ (((first * 256 + second) * 256 + third) * 256 + fourth) * 256 + fifth ⌝ }
-{
-    let high = (first as u64 * 256 + second as u64) * 256 + third as u64;
-    (high * 256 + fourth as u64) * 256 + fifth as u64
-}
-
-// The 40 bits of five bytes that all stand inside.
-fn window_inside(bytes: &[u8], i: usize) -> u64
-    requires { ⌜ i + 5 ≤ length (now bytes) ⌝ }
-    ensures { λ r. ⌜ r ≡ fieldAt (now (bytes .entry)) (8 * i) 40 ⌝ }
-{
-    joined(
-        bytes[i],
-        bytes[i + 1],
-        bytes[i + 2],
-        bytes[i + 3],
-        bytes[i + 4],
-    )
-}
-
-// The same where the bytes may end before them.
-fn window_across_end(bytes: &[u8], i: usize) -> u64
-    requires { ⌜ i < 2 ^ 62 ⌝ }
-    ensures { λ r. ⌜ r ≡ fieldAt (now (bytes .entry)) (8 * i) 40 ⌝ }
-{
-    joined(
-        byte_at(bytes, i),
-        byte_at(bytes, i + 1),
-        byte_at(bytes, i + 2),
-        byte_at(bytes, i + 3),
-        byte_at(bytes, i + 4),
-    )
-}
-
-// The 40 bits of the five bytes from an index on.
-fn window_at(bytes: &[u8], i: usize) -> u64
-    requires { ⌜ i < 2 ^ 62 ⌝ }
-    ensures { λ r. ⌜ r ≡ fieldAt (now (bytes .entry)) (8 * i) 40 ⌝ }
-{
-    if i + 5 <= bytes.len() {
-        window_inside(bytes, i)
-    } else {
-        window_across_end(bytes, i)
-    }
-}
-
-// A width, 32 at the most.
-fn capped(width: u32) -> u32
-    ensures { λ r. ⌜ (r ≡ fieldWidth width) × (r ≤ 32) ⌝ }
-{
-    if width < 32 { width } else { 32 }
-}
-
-// The bit at a place; 0 past the end.
-pub fn bit_at(bytes: &[u8], at: usize) -> u32
-    ensures { λ r. ⌜ r ≡ bitAt (now (bytes .entry)) at ⌝ }
-{
-    let byte = byte_at(bytes, at / 8) as u32;
-    (byte >> (7 - at % 8)) % 2
-}
-
-// The field of a width, 32 at the most, at any place; its bits past the end are 0.
-pub fn field_at(bytes: &[u8], at: usize, width: u32) -> u32
-    ensures { λ r. ⌜ r ≡ fieldAt (now (bytes .entry)) at (fieldWidth width) ⌝ }
-{
-    let w = capped(width);
-    let skipped = (at % 8) as u32;
-    let window = window_at(bytes, at / 8);
-    ((window >> (40 - skipped - w)) % (1u64 << w)) as u32
-}
-
 // How many bits are left from a place on, 32 at the most.
 fn bits_left(bytes: &[u8], at: usize) -> u32
     ensures { λ r. ⌜ r ≡ fieldWidth (8 * length (now (bytes .entry)) - at) ⌝ }
@@ -146,6 +70,22 @@ fn code_of_zeros(bytes: &[u8], at: usize) -> Read
     }
     let next = at + 2 * zeros as usize;
     Read::Value((1u32 << zeros) - 1, ReadPlace { bit_pos: next })
+}
+
+// A code by its prefix among the next 32 bits, and then its number: also one that is too long for a window, or cut by the end.
+fn code_by_fields(bytes: &[u8], at: usize) -> Read
+    requires { ⌜ at < 2 ^ 63 ⌝ }
+    ensures { λ r. ⌜ readAnswer r ≡ codeAt (now (bytes .entry)) at ⌝ }
+{
+    let window = field_at(bytes, at, 32);
+    if window == 0 {
+        return code_of_zeros(bytes, at);
+    }
+    let zeros = u32::leading_zeros(window);
+    let one = at + zeros as usize;
+    let code_num = field_at(bytes, one, zeros + 1);
+    let next = one + (zeros + 1) as usize;
+    Read::Value(code_num - 1, ReadPlace { bit_pos: next })
 }
 
 impl ReadPlace {
@@ -183,7 +123,7 @@ impl ReadPlace {
         )
     }
 
-    // A code.
+    // A code; at once where it stands whole in a window of eight bytes.
     pub fn ue(self, bytes: &[u8]) -> Read
         ensures { λ r. ⌜ readAnswer r ≡ readCode (now (bytes .entry)) (self .«bit_pos») ⌝ }
     {
@@ -191,14 +131,18 @@ impl ReadPlace {
         if PLACE_LIMIT <= at {
             return Read::Refused(NOT_WELL_FORMED);
         }
-        let window = field_at(bytes, at, 32);
-        if window == 0 {
-            return code_of_zeros(bytes, at);
+        let start = window_start(bytes.len(), at / 8);
+        let skipped = at - 8 * start;
+        if 63 < skipped {
+            return code_by_fields(bytes, at);
         }
-        let zeros = u32::leading_zeros(window);
-        let one = at + zeros as usize;
-        let code_num = field_at(bytes, one, zeros + 1);
-        let next = one + (zeros + 1) as usize;
+        let rest = window_at(bytes, start) << skipped;
+        let zeros = u64::leading_zeros(rest);
+        if 63 - skipped < 2 * zeros as usize {
+            return code_by_fields(bytes, at);
+        }
+        let code_num = (rest >> (63 - 2 * zeros)) as u32;
+        let next = at + 2 * zeros as usize + 1;
         Read::Value(code_num - 1, ReadPlace { bit_pos: next })
     }
 

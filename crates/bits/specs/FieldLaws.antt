@@ -61,6 +61,15 @@ field-high s at a b = rw (field-split s at a b) (high (fieldAt s at a) b (field-
 pub field-low : (s : List ℕ) (at a b : ℕ) → fieldAt s at (a + b) % 2 ^ b ≡ fieldAt s (at + a) b
 field-low s at a b = rw (field-split s at a b) (low (fieldAt s at a) b (field-lt s (at + a) b))
 
+-- a field among the bits of a wider one
+pub field-within : (s : List ℕ) (p n at w : ℕ) → p ≤ at → at + w ≤ p + n → fieldAt s p n / 2 ^ (p + n - (at + w)) % 2 ^ w ≡ fieldAt s at w
+field-within s p n at w h l =
+    let b : ℕ = p + n - (at + w) in
+    let m : n ≡ at - p + w + b = omega arith in
+    let a : p + (at - p) ≡ at = omega arith in
+    let f : fieldAt s p n / 2 ^ b ≡ fieldAt s p (at - p + w) = ap (λ (k : ℕ). fieldAt s p k / 2 ^ b) m ∙ field-high s p (at - p + w) b in
+    rw f (field-low s p (at - p) w ∙ rw a refl)
+
 -- a bit by its byte and its place there
 pub bit-of-byte : (s : List ℕ) (i k : ℕ) → k < 8 → bitAt s (8 * i + k) ≡ getD s i 0 / 2 ^ (7 - k) % 2
 unfolding bitAt

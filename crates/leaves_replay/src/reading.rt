@@ -151,10 +151,10 @@ pub fn is_question_same(tag: u8, content: &[u8]) -> bool {
     let value = four_bytes(behind(content, 13));
     let bytes = behind(content, 25);
     if tag == BIT_AT {
-        return bit_reader::bit_at(bytes, at) == value;
+        return bit_fields::bit_at(bytes, at) == value;
     }
     if tag == FIELD_AT {
-        return bit_reader::field_at(bytes, at, width) == value;
+        return bit_fields::field_at(bytes, at, width) == value;
     }
     is_asked(asked(tag, bytes, at), expected_of(content))
 }

@@ -34,7 +34,7 @@ fn constraints_length(bytes: &[u8], c: Cursor) -> u32
     if LIMIT <= c.at {
         return 77;
     }
-    77 + bit_reader::field_at(bytes, c.at + 69, 8)
+    77 + bit_fields::field_at(bytes, c.at + 69, 8)
 }
 
 // The constraints' length, and their bits.

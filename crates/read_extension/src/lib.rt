@@ -21,7 +21,7 @@ pub fn data_bits(bytes: &[u8], at: usize) -> usize
     let mut i = bytes.len() * 8;
     let mut ones = 0;
     while at < i {
-        let bit = bit_reader::bit_at(bytes, i - 1);
+        let bit = bit_fields::bit_at(bytes, i - 1);
         if 1 < ones + bit {
             return i - at;
         }
@@ -46,7 +46,7 @@ pub fn store_bits(bytes: &[u8], rec: &mut [u32], n: usize, at: usize, count: usi
     }
     let mut j = 0;
     while j < count {
-        read_steps::store(rec, n + j, bit_reader::bit_at(bytes, at + j));
+        read_steps::store(rec, n + j, bit_fields::bit_at(bytes, at + j));
         j = j + 1;
     }
 }

@@ -53,7 +53,7 @@ fn read_reversed(bytes: &[u8], rec: &mut [u32], c: Cursor, count: u32, width: u3
     let mut j = count;
     while 0 < j {
         j -= 1;
-        let v = bit_reader::field_at(bytes, place_behind(c, j, width), width);
+        let v = bit_fields::field_at(bytes, place_behind(c, j, width), width);
         let kept = read_steps::infer(rec, next, v);
         next = kept.next;
     }
@@ -69,7 +69,7 @@ fn read_reversed(bytes: &[u8], rec: &mut [u32], c: Cursor, count: u32, width: u3
 fn count_flags(bytes: &[u8], c: Cursor, count: u32) -> u32
     ensures { λ r. ⌜ (count < 32 → r ≡ sum (fallingAt (now (bytes .entry)) (c .at) count 1)) ⌝ }
 {
-    u32::count_ones(bit_reader::field_at(bytes, c.at, count))
+    u32::count_ones(bit_fields::field_at(bytes, c.at, count))
 }
 
 // The sublayers' flags and levels, and the sub-profiles.

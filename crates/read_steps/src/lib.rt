@@ -97,7 +97,7 @@ pub fn take(bytes: &[u8], rec: &mut [u32], c: Cursor, width: u32) -> Took
             next: shut(c),
         };
     }
-    let v = bit_reader::field_at(bytes, c.at, width);
+    let v = bit_fields::field_at(bytes, c.at, width);
     store(rec, c.n, v);
     Took {
         v,
@@ -120,7 +120,7 @@ pub fn take_minus1(bytes: &[u8], rec: &mut [u32], c: Cursor) -> Took
             next: shut(c),
         };
     }
-    let v = bit_reader::field_at(bytes, c.at, 8) + 1;
+    let v = bit_fields::field_at(bytes, c.at, 8) + 1;
     store(rec, c.n, v);
     Took {
         v,
@@ -184,7 +184,7 @@ pub fn take_late(bytes: &[u8], c: Cursor, width: u32) -> Took
         };
     }
     Took {
-        v: bit_reader::field_at(bytes, c.at, width),
+        v: bit_fields::field_at(bytes, c.at, width),
         next: Cursor {
             at: c.at + capped(width) as usize,
             n: c.n,
@@ -330,7 +330,7 @@ pub fn align(bytes: &[u8], c: Cursor, number: u32) -> Cursor
         return shut(c);
     }
     let width = (8 - c.at % 8) % 8;
-    if bit_reader::field_at(bytes, c.at, width as u32) != 0 {
+    if bit_fields::field_at(bytes, c.at, width as u32) != 0 {
         return Cursor {
             at: c.at,
             n: c.n,

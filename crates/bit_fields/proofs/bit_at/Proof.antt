@@ -2,8 +2,8 @@
 use borrow.Author.Needs.{needs}
 use mathlib.Core.Path.{refl}
 use Rattle.bits.specs.Bits.{bitAt}
-use Rattle.bit_reader.proofs.bit_at.Statement.{statement}
-use Rattle.bit_reader.proofs.bit_at.Tie as tie
+use Rattle.bit_fields.proofs.bit_at.Statement.{statement}
+use Rattle.bit_fields.proofs.bit_at.Tie as tie
 
 byte-at-requires : tie.Need-byte-at-requires
 byte-at-requires c κs = search needs

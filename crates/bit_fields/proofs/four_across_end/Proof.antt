@@ -1,9 +1,9 @@
--- Five bytes are a field of 40 bits.
+-- Four bytes are a field of 32 bits.
 use borrow.Author.Needs.{needs}
 use native.Mathlib.Omega.{arith}
-use Rattle.bit_reader.proofs.Steps.{five-bytes}
-use Rattle.bit_reader.proofs.window_across_end.Statement.{statement}
-use Rattle.bit_reader.proofs.window_across_end.Tie as tie
+use Rattle.bit_fields.proofs.Steps.{four-bytes}
+use Rattle.bit_fields.proofs.four_across_end.Statement.{statement}
+use Rattle.bit_fields.proofs.four_across_end.Tie as tie
 
 byte-at-requires : tie.Need-byte-at-requires
 byte-at-requires c κs = search needs
@@ -26,20 +26,14 @@ add-byte-at-3 c = search needs
 byte-at-requires-4 : tie.Need-byte-at-requires-4
 byte-at-requires-4 c κs = search needs
 
-add-byte-at-4 : tie.Need-add-byte-at-4
-add-byte-at-4 c = search needs
-
-byte-at-requires-5 : tie.Need-byte-at-requires-5
-byte-at-requires-5 c κs = search needs
-
 joined-requires : tie.Need-joined-requires
 joined-requires c κs = search needs
 
 returns : tie.Need-returns
-returns c = omega (arith, five-bytes (c .before .before .before .before .before .before .before .args .bytes .now) (c .before .before .before .before .before .before .before .args .i) (λ j. c .before .before .before .before .before .before .shared-slice-known .given j .fits))
+returns c = omega (arith, four-bytes (c .before .before .before .before .before .before .args .bytes .now) (c .before .before .before .before .before .before .args .i) (λ j. c .before .before .before .before .before .shared-slice-known .given j .fits))
 
-pub window-across-end-spec : {M : Type 1} → statement M
-window-across-end-spec =
+pub four-across-end-spec : {M : Type 1} → statement M
+four-across-end-spec =
     tie.close
     (tie.spec
     byte-at-requires
@@ -49,7 +43,5 @@ window-across-end-spec =
     byte-at-requires-3
     add-byte-at-3
     byte-at-requires-4
-    add-byte-at-4
-    byte-at-requires-5
     joined-requires
     returns)

@@ -2,8 +2,8 @@
 use borrow.Author.Needs.{needs}
 use mathlib.Core.Path.{sym}
 use lib.ListN.{List·getD-eq-default}
-use Rattle.bit_reader.proofs.byte_at.Statement.{statement}
-use Rattle.bit_reader.proofs.byte_at.Tie as tie
+use Rattle.bit_fields.proofs.byte_at.Statement.{statement}
+use Rattle.bit_fields.proofs.byte_at.Tie as tie
 
 shared-slice-read-result : tie.Need-shared-slice-read-result
 shared-slice-read-result c = search needs

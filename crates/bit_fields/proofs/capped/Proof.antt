@@ -2,8 +2,8 @@
 use mathlib.Core.Path.{refl}
 use native.Mathlib.Omega.{arith}
 use borrow.Author.Tests.{lt-ltb, le-ltb}
-use Rattle.bit_reader.proofs.capped.Statement.{statement}
-use Rattle.bit_reader.proofs.capped.Tie as tie
+use Rattle.bit_fields.proofs.capped.Statement.{statement}
+use Rattle.bit_fields.proofs.capped.Tie as tie
 
 returns : tie.Need-returns
 returns c = (rw (lt-ltb (c .before .args .width) 32 (c .if1 .taken)) refl, omega arith)
