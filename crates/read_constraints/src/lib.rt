@@ -20,7 +20,7 @@ pub fn read_fields(bytes: &[u8], rec: &mut [u32], c: Cursor, count: u32, width: 
         if next.refused != 0 {
             return next;
         }
-        let field = read_steps::take(bytes, rec, next, width);
+        let field = read_fields::take(bytes, rec, next, width);
         next = field.next;
         i += 1;
     }
@@ -68,7 +68,7 @@ pub fn read_general_constraints_info(
     if present == 0 {
         return c;
     }
-    let flag = read_steps::take(bytes, rec, c, 1);
+    let flag = read_fields::take(bytes, rec, c, 1);
     let behind = read_constraints_if(bytes, rec, flag.next, flag.v);
     read_steps::skip_to_boundary(behind)
 }

@@ -28,11 +28,11 @@ pub struct Triple {
 fn read_dpb_sublayer(bytes: &[u8], c: Cursor) -> Triple
     ensures { λ r. ⌜ Yields dpb-sublayer (now (bytes .entry)) c tt (r .next) (triple (r .row)) ⌝ }
 {
-    let buffering = read_steps::see_code(bytes, c);
+    let buffering = read_codes::see_code(bytes, c);
     let deep = read_steps::hold(buffering.next, buffering.v <= 15, DPB_BUFFERING);
-    let reorder = read_steps::see_code(bytes, deep);
+    let reorder = read_codes::see_code(bytes, deep);
     let ordered = read_steps::hold(reorder.next, reorder.v <= buffering.v, DPB_REORDER);
-    let latency = read_steps::see_code(bytes, ordered);
+    let latency = read_codes::see_code(bytes, ordered);
     let next = latency.next;
     Triple {
         row: [buffering.v, reorder.v, latency.v],
@@ -151,10 +151,10 @@ fn read_dpb_slots(
 fn read_ols_dpb(bytes: &[u8], rec: &mut [u32], c: Cursor, slots: u32, multi: u32, i: u32) -> Cursor
     ensures { λ r. ⌜ Meets (ols-dpb slots multi i) (now (bytes .entry)) c tt r (now (rec .entry)) (now (rec .exit)) ⌝ }
 {
-    let width = read_steps::take_code(bytes, rec, c);
-    let height = read_steps::take_code(bytes, rec, width.next);
-    let chroma = read_steps::take(bytes, rec, height.next, 2);
-    let depth = read_steps::take_code(bytes, rec, chroma.next);
+    let width = read_codes::take_code(bytes, rec, c);
+    let height = read_codes::take_code(bytes, rec, width.next);
+    let chroma = read_fields::take(bytes, rec, height.next, 2);
+    let depth = read_codes::take_code(bytes, rec, chroma.next);
     let held = read_steps::hold(depth.next, depth.v <= 8, DPB_DEPTH);
     read_entries::read_index(bytes, rec, held, slots, multi, DPB_INDEX, i)
 }
@@ -186,9 +186,9 @@ pub fn read_dpb_section(
 ) -> Took
     ensures { λ r. ⌜ ((«max_sublayers_minus1» ≤ 6) → Meets (dpb-section «default_max_tid_flag» «max_sublayers_minus1» multi) (now (bytes .entry)) c (r .v) (r .next) (now (rec .entry)) (now (rec .exit))) ⌝ }
 {
-    let slots = read_steps::take_code_minus1(bytes, rec, c);
+    let slots = read_codes::take_code_minus1(bytes, rec, c);
     let held = read_steps::hold(slots.next, slots.v <= multi, DPB_SLOTS);
-    let flag = read_steps::take_late_if(bytes, held, 0 < max_sublayers_minus1, 1, 0);
+    let flag = read_fields::take_late_if(bytes, held, 0 < max_sublayers_minus1, 1, 0);
     let filled = read_dpb_slots(
         bytes,
         rec,

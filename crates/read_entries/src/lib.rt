@@ -20,7 +20,7 @@ pub fn read_index(
 ) -> Cursor
     ensures { λ r. ⌜ ((number ≡ 0 → ⊥) → Meets (index size count number i) (now (bytes .entry)) c tt r (now (rec .entry)) (now (rec .exit))) ⌝ }
 {
-    let v = read_steps::take_code_if(
+    let v = read_codes::take_code_if(
         bytes,
         rec,
         c,
@@ -64,7 +64,7 @@ pub fn read_max_tid(
 ) -> Took
     ensures { λ r. ⌜ ((number ≡ 0 → ⊥) → Meets (max-tid «default_max_tid_flag» «max_sublayers_minus1» number) (now (bytes .entry)) c (r .v) (r .next) (now (rec .entry)) (now (rec .exit))) ⌝ }
 {
-    let t = read_steps::take_if(
+    let t = read_fields::take_if(
         bytes,
         rec,
         c,

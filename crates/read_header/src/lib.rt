@@ -16,7 +16,7 @@ use vps_header::Header;
 fn take_late_within(bytes: &[u8], c: Cursor, width: u32, most: u32) -> Took
     ensures { λ r. ⌜ (r .v ≤ most) × ((find : List ℕ → List ℕ → ℕ) (rec : List ℕ) → 2 ^ fieldWidth width ≡ most + 1 → Meets (late (fieldWidth width) find done) (now (bytes .entry)) c (r .v) (r .next) rec rec) ⌝ }
 {
-    let t = read_steps::take_late(bytes, c, width);
+    let t = read_fields::take_late(bytes, c, width);
     let next = t.next;
     Took {
         v: vps_header::capped(t.v, most),
@@ -28,7 +28,7 @@ fn take_late_within(bytes: &[u8], c: Cursor, width: u32, most: u32) -> Took
 pub fn take_within(bytes: &[u8], rec: &mut [u32], c: Cursor, width: u32, most: u32) -> Took
     ensures { λ r. ⌜ (r .v ≤ most) × (2 ^ fieldWidth width ≡ most + 1 → Meets (u (fieldWidth width)) (now (bytes .entry)) c (r .v) (r .next) (now (rec .entry)) (now (rec .exit))) ⌝ }
 {
-    let t = read_steps::take(bytes, rec, c, width);
+    let t = read_fields::take(bytes, rec, c, width);
     let next = t.next;
     Took {
         v: vps_header::capped(t.v, most),
@@ -45,13 +45,13 @@ pub struct HeaderRead {
 pub fn read_header(bytes: &[u8], c: Cursor) -> HeaderRead
     ensures { λ r. ⌜ HeaderMet (now (bytes .entry)) c (r .header) (r .next) ⌝ }
 {
-    let id = read_steps::take_late(bytes, c, 4);
+    let id = read_fields::take_late(bytes, c, 4);
     let layers = take_late_within(bytes, id.next, 6, 63);
     let sublayers = take_late_within(bytes, layers.next, 3, 7);
     let held = read_steps::hold(sublayers.next, sublayers.v <= 6, SUBLAYERS_RESERVED);
     let several = vps_header::both(0 < layers.v, 0 < sublayers.v);
-    let default_flag = read_steps::take_late_if(bytes, held, several, 1, 1);
-    let independent = read_steps::take_late_if(bytes, default_flag.next, 0 < layers.v, 1, 1);
+    let default_flag = read_fields::take_late_if(bytes, held, several, 1, 1);
+    let independent = read_fields::take_late_if(bytes, default_flag.next, 0 < layers.v, 1, 1);
     let top = vps_header::capped(sublayers.v, 6);
     let next = independent.next;
     HeaderRead {

@@ -24,13 +24,13 @@ fn read_hrd_scales(
 ) -> TookHrd
     ensures { λ r. ⌜ Meets (hrd-scales present nal vcl) (now (bytes .entry)) c (hrd-of (r .hrd)) (r .next) (now (rec .entry)) (now (rec .exit)) ⌝ }
 {
-    let same = read_steps::take_if(bytes, rec, c, present, 1, 0);
-    let du = read_steps::take_if(bytes, rec, same.next, present, 1, 0);
-    let divisor = read_steps::take_if(bytes, rec, du.next, du.v == 1, 8, 0);
-    let rate = read_steps::take_if(bytes, rec, divisor.next, present, 4, 0);
-    let size = read_steps::take_if(bytes, rec, rate.next, present, 4, 0);
-    let du_size = read_steps::take_if(bytes, rec, size.next, du.v == 1, 4, 0);
-    let count = read_steps::take_code_if(bytes, rec, du_size.next, present, 0);
+    let same = read_fields::take_if(bytes, rec, c, present, 1, 0);
+    let du = read_fields::take_if(bytes, rec, same.next, present, 1, 0);
+    let divisor = read_fields::take_if(bytes, rec, du.next, du.v == 1, 8, 0);
+    let rate = read_fields::take_if(bytes, rec, divisor.next, present, 4, 0);
+    let size = read_fields::take_if(bytes, rec, rate.next, present, 4, 0);
+    let du_size = read_fields::take_if(bytes, rec, size.next, du.v == 1, 4, 0);
+    let count = read_codes::take_code_if(bytes, rec, du_size.next, present, 0);
     let held = read_steps::hold(count.next, count.v <= 31, SCHEDULE_COUNT);
     TookHrd {
         hrd: Hrd {
@@ -47,10 +47,10 @@ fn read_hrd_scales(
 pub fn parse_general_timing_hrd(bytes: &[u8], rec: &mut [u32], c: Cursor) -> TookHrd
     ensures { λ r. ⌜ Meets general-timing-hrd (now (bytes .entry)) c (hrd-of (r .hrd)) (r .next) (now (rec .entry)) (now (rec .exit)) ⌝ }
 {
-    let units = read_steps::take(bytes, rec, c, 32);
-    let scale = read_steps::take(bytes, rec, units.next, 32);
-    let nal = read_steps::take(bytes, rec, scale.next, 1);
-    let vcl = read_steps::take(bytes, rec, nal.next, 1);
+    let units = read_fields::take(bytes, rec, c, 32);
+    let scale = read_fields::take(bytes, rec, units.next, 32);
+    let nal = read_fields::take(bytes, rec, scale.next, 1);
+    let vcl = read_fields::take(bytes, rec, nal.next, 1);
     let held = read_steps::hold(
         vcl.next,
         vps_entries::are_units_set(units.v, scale.v),

@@ -35,7 +35,7 @@ fn read_direct_reference(
 {
     let flag = read_header::take_within(bytes, rec, c, 1, 1);
     let coded = vps_header::both(present == 1, flag.v == 1);
-    let max_tid = read_steps::take_if(bytes, rec, flag.next, coded, 3, sublayers);
+    let max_tid = read_fields::take_if(bytes, rec, flag.next, coded, 3, sublayers);
     let next = max_tid.next;
     Took { v: flag.v, next }
 }
@@ -70,7 +70,7 @@ fn read_direct_references(
 fn read_dependent_layer(bytes: &[u8], rec: &mut [u32], c: Cursor, sublayers: u32, i: usize) -> Flags
     ensures { λ r. ⌜ ((most : ℕ) → sublayers ≡ most + 1 → i ≤ 64 → FlagsMet (dependent-layer most i) i (now (bytes .entry)) c (r .mask) (r .next) (now (rec .entry)) (now (rec .exit))) ⌝ }
 {
-    let present = read_steps::take(bytes, rec, c, 1);
+    let present = read_fields::take(bytes, rec, c, 1);
     let flags = read_direct_references(bytes, rec, present.next, present.v, sublayers, i);
     let mask = flags.mask;
     let next = read_steps::hold(flags.next, mask != 0, NO_DIRECT_REFERENCE);
@@ -117,7 +117,7 @@ fn read_layer(
     let id = read_header::take_within(bytes, rec, c, 6, 63);
     let held = read_steps::hold(id.next, least <= id.v, LAYER_IDS_NOT_RISING);
     let coded = vps_header::both(0 < i, h.all_independent_flag == 0);
-    let independent = read_steps::take_if(bytes, rec, held, coded, 1, 1);
+    let independent = read_fields::take_if(bytes, rec, held, coded, 1, 1);
     let sublayers = vps_header::capped(h.max_sublayers_minus1, 7) + 1;
     let flags = read_references(bytes, rec, independent.next, independent.v, sublayers, i);
     let next = flags.next;

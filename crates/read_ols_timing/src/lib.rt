@@ -21,16 +21,16 @@ fn read_sublayer_hrd_if(bytes: &[u8], rec: &mut [u32], c: Cursor, flag: u32, hrd
 fn parse_timing_sublayer(bytes: &[u8], rec: &mut [u32], c: Cursor, hrd: Hrd) -> Cursor
     ensures { λ r. ⌜ Meets (timing-sublayer (hrd-of hrd)) (now (bytes .entry)) c tt r (now (rec .entry)) (now (rec .exit)) ⌝ }
 {
-    let general = read_steps::take(bytes, rec, c, 1);
-    let within = read_steps::take_if(bytes, rec, general.next, general.v == 0, 1, 1);
-    let duration = read_steps::take_code_if(bytes, rec, within.next, within.v == 1, 0);
+    let general = read_fields::take(bytes, rec, c, 1);
+    let within = read_fields::take_if(bytes, rec, general.next, general.v == 0, 1, 1);
+    let duration = read_codes::take_code_if(bytes, rec, within.next, within.v == 1, 0);
     let held = read_steps::hold(duration.next, duration.v <= 2047, ELEMENTAL_DURATION);
     let coded = vps_entries::is_low_delay_coded(
         within.v,
         vps_entries::is_hrd_present(hrd.nal, hrd.vcl),
         hrd.cpb_cnt_minus1,
     );
-    let delay = read_steps::take_if(bytes, rec, held, coded, 1, 0);
+    let delay = read_fields::take_if(bytes, rec, held, coded, 1, 0);
     let nal = read_sublayer_hrd_if(bytes, rec, delay.next, hrd.nal, hrd);
     read_sublayer_hrd_if(bytes, rec, nal, hrd.vcl, hrd)
 }

@@ -17,8 +17,8 @@ fn read_profile_and_tier(bytes: &[u8], rec: &mut [u32], c: Cursor, present: u32)
     if present == 0 {
         return c;
     }
-    let profile = read_steps::take(bytes, rec, c, 7);
-    let tier = read_steps::take(bytes, rec, profile.next, 1);
+    let profile = read_fields::take(bytes, rec, c, 7);
+    let tier = read_fields::take(bytes, rec, profile.next, 1);
     tier.next
 }
 
@@ -29,7 +29,7 @@ fn read_sub_profiles(bytes: &[u8], rec: &mut [u32], c: Cursor, present: u32) -> 
     if present == 0 {
         return c;
     }
-    let count = read_steps::take(bytes, rec, c, 8);
+    let count = read_fields::take(bytes, rec, c, 8);
     read_constraints::read_fields(bytes, rec, count.next, count.v, 32)
 }
 
@@ -93,9 +93,9 @@ fn read_from_sublayers(
 fn read_from_level(bytes: &[u8], rec: &mut [u32], c: Cursor, present: u32, max_tid: u32) -> Cursor
     ensures { λ r. ⌜ («max_tid» ≤ 7 → Meets (from-level present «max_tid») (now (bytes .entry)) c tt r (now (rec .entry)) (now (rec .exit))) ⌝ }
 {
-    let level = read_steps::take(bytes, rec, c, 8);
-    let frame_only = read_steps::take(bytes, rec, level.next, 1);
-    let multilayer = read_steps::take(bytes, rec, frame_only.next, 1);
+    let level = read_fields::take(bytes, rec, c, 8);
+    let frame_only = read_fields::take(bytes, rec, level.next, 1);
+    let multilayer = read_fields::take(bytes, rec, frame_only.next, 1);
     let constraints = read_constraints::read_general_constraints_info(
         bytes,
         rec,

@@ -29,8 +29,8 @@ fn read_head(
 ) -> SlotHead
     ensures { λ r. ⌜ ((heads : List Head) (rec : List ℕ) → Meets (head-of «default_max_tid» «max_sublayers_minus1» i heads) (now (bytes .entry)) c (heads ++ (head (r .present) (r .«max_tid») ∷ [])) (r .next) rec rec) ⌝ }
 {
-    let present = read_steps::take_late_if(bytes, c, 0 < i, 1, 1);
-    let max_tid = read_steps::take_late_if(
+    let present = read_fields::take_late_if(bytes, c, 0 < i, 1, 1);
+    let max_tid = read_fields::take_late_if(
         bytes,
         present.next,
         default_max_tid == 0,
@@ -101,7 +101,7 @@ fn read_slot_count(bytes: &[u8], rec: &mut [u32], c: Cursor, layers: u32) -> Too
     if layers == 1 {
         return read_steps::infer(rec, c, 1);
     }
-    read_steps::take_minus1(bytes, rec, c)
+    read_fields::take_minus1(bytes, rec, c)
 }
 
 // The PTL section: the slots' number, which comes back, their heads, and the slots.
@@ -119,7 +119,7 @@ pub fn read_ptl_section(
     let count = read_slot_count(bytes, rec, c, layers);
     let held = read_steps::hold(count.next, count.v <= total, PTLS_OVER_SETS);
     let heads = read_heads(bytes, held, count.v, default_max_tid, max_sublayers_minus1);
-    let boundary = read_steps::align(bytes, heads, PTL_ALIGNMENT);
+    let boundary = read_fields::align(bytes, heads, PTL_ALIGNMENT);
     let slots = read_slots(
         bytes,
         rec,

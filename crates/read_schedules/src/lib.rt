@@ -13,8 +13,8 @@ fn read_du_values(bytes: &[u8], rec: &mut [u32], c: Cursor, du: u32) -> Cursor
     if du == 0 {
         return c;
     }
-    let size = read_steps::take_code(bytes, rec, c);
-    let rate = read_steps::take_code(bytes, rec, size.next);
+    let size = read_codes::take_code(bytes, rec, c);
+    let rate = read_codes::take_code(bytes, rec, size.next);
     rate.next
 }
 
@@ -22,10 +22,10 @@ fn read_du_values(bytes: &[u8], rec: &mut [u32], c: Cursor, du: u32) -> Cursor
 fn read_schedule(bytes: &[u8], rec: &mut [u32], c: Cursor, du: u32) -> Cursor
     ensures { λ r. ⌜ Meets (schedule du) (now (bytes .entry)) c tt r (now (rec .entry)) (now (rec .exit)) ⌝ }
 {
-    let rate = read_steps::take_code(bytes, rec, c);
-    let size = read_steps::take_code(bytes, rec, rate.next);
+    let rate = read_codes::take_code(bytes, rec, c);
+    let size = read_codes::take_code(bytes, rec, rate.next);
     let values = read_du_values(bytes, rec, size.next, du);
-    let constant = read_steps::take(bytes, rec, values, 1);
+    let constant = read_fields::take(bytes, rec, values, 1);
     constant.next
 }
 

@@ -108,7 +108,7 @@ fn read_rows(
 fn take_count(bytes: &[u8], rec: &mut [u32], c: Cursor) -> Took
     ensures { λ r. ⌜ (r .v ≤ 256) × Meets (u-minus1 8) (now (bytes .entry)) c (r .v) (r .next) (now (rec .entry)) (now (rec .exit)) ⌝ }
 {
-    let t = read_steps::take_minus1(bytes, rec, c);
+    let t = read_fields::take_minus1(bytes, rec, c);
     let next = t.next;
     Took {
         v: vps_header::capped(t.v, 256),
@@ -172,9 +172,9 @@ pub fn read_sets(bytes: &[u8], rec: &mut [u32], closed: &[u64], c: Cursor, h: He
     ensures { λ r. ⌜ ((refs : List (List ℕ)) → Known refs (now (closed .entry)) (h .layers) → SectionMet (headerOf h) refs (now (bytes .entry)) c (r .«each_layer_flag») (r .«mode_idc») (r .total) (r .multi) (r .start) (r .next) (now (rec .entry)) (now (rec .exit))) ⌝ }
 {
     let each_coded = vps_header::both(1 < h.layers, h.all_independent_flag == 1);
-    let each = read_steps::take_late_if(bytes, c, each_coded, 1, vps_header::single(h.layers));
+    let each = read_fields::take_late_if(bytes, c, each_coded, 1, vps_header::single(h.layers));
     let mode_coded = vps_header::both(each.v == 0, h.all_independent_flag == 0);
-    let mode = read_steps::take_late_if(bytes, each.next, mode_coded, 2, 2);
+    let mode = read_fields::take_late_if(bytes, each.next, mode_coded, 2, 2);
     let held = read_steps::hold(mode.next, mode.v <= 2, MODE_RESERVED);
     let rows = read_set_rows(bytes, rec, closed, held, h.layers, each.v, mode.v);
     let next = rows.next;

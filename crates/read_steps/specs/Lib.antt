@@ -3,3 +3,4 @@ pub mod Meets
 pub mod Laws
 pub mod Turns
 pub mod Marked
+pub mod Steps

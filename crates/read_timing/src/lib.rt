@@ -80,8 +80,8 @@ pub fn read_timing_section(
     ensures { λ r. ⌜ Meets (timing-section «default_max_tid_flag» «max_sublayers_minus1» multi) (now (bytes .entry)) c tt r (now (rec .entry)) (now (rec .exit)) ⌝ }
 {
     let general = read_hrd::parse_general_timing_hrd(bytes, rec, c);
-    let flag = read_steps::take_if(bytes, rec, general.next, 0 < max_sublayers_minus1, 1, 0);
-    let entries = read_steps::take_code_minus1(bytes, rec, flag.next);
+    let flag = read_fields::take_if(bytes, rec, general.next, 0 < max_sublayers_minus1, 1, 0);
+    let entries = read_codes::take_code_minus1(bytes, rec, flag.next);
     let held = read_steps::hold(entries.next, entries.v <= multi, TIMING_ENTRIES);
     let listed = read_timing_entries(
         bytes,

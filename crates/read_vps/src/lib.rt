@@ -88,7 +88,7 @@ fn read_multi_layer_sections(
         multi,
     );
     let behind = slots.next;
-    let present = read_steps::take(bytes, rec, behind, 1);
+    let present = read_fields::take(bytes, rec, behind, 1);
     let next = read_timing_if(bytes, rec, present.next, present.v, h, multi);
     Buffers {
         flag: slots.v,
@@ -175,7 +175,7 @@ pub fn read_vps(bytes: &[u8], rec: &mut [u32], c: Cursor) -> Whole
     let levels = ptls.next;
     let olss = read_ols_section(bytes, rec, levels, ptls.v, sets.total);
     let buffers = read_buffer_sections(bytes, rec, olss, h, sets.each_layer_flag, sets.multi);
-    let flag = read_steps::take_late(bytes, buffers.next, 1);
+    let flag = read_fields::take_late(bytes, buffers.next, 1);
     let next = flag.next;
     Whole {
         header: h,

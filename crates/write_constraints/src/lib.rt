@@ -17,7 +17,7 @@ pub fn write_fields(rec: &[u32], out: &mut [u8], p: Place, count: u32, width: u3
     let mut next = p;
     let mut i = 0;
     while i < count {
-        let field = write_steps::put(rec, out, next, width);
+        let field = write_fields::put(rec, out, next, width);
         next = field.next;
         if next.bad {
             return next;
@@ -53,7 +53,7 @@ fn write_fixed(rec: &[u32], out: &mut [u8], p: Place) -> Place
     let mut i = 1;
     while i < 78 {
         let bit = ptl_slots::number_from(rec, next.c, i);
-        let sent = write_steps::put_late(out, next, 1, bit);
+        let sent = write_fields::put_late(out, next, 1, bit);
         next = sent.next;
         if next.bad {
             return next;
@@ -72,7 +72,7 @@ fn write_falling(rec: &[u32], out: &mut [u8], p: Place, count: usize, width: u32
     while 0 < j {
         j -= 1;
         let number = ptl_slots::number_from(rec, next.c, j);
-        let sent = write_steps::put_late(out, next, width, number);
+        let sent = write_fields::put_late(out, next, width, number);
         next = sent.next;
         if next.bad {
             return next;
@@ -120,7 +120,7 @@ pub fn write_general_constraints_info(rec: &[u32], out: &mut [u8], p: Place, pre
     if present == 0 {
         return p;
     }
-    let flag = write_steps::put(rec, out, p, 1);
+    let flag = write_fields::put(rec, out, p, 1);
     let behind = write_constraints_if(rec, out, flag.next, flag.v);
-    write_steps::align(out, behind)
+    write_fields::align(out, behind)
 }

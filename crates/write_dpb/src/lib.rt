@@ -13,11 +13,11 @@ const SUBLAYER_DPB_PARAMS_PRESENT_FLAG: usize = 7;
 fn write_dpb_sublayer(rec: &[u32], out: &mut [u8], p: Place) -> Place
     ensures { λ r. ⌜ Does dpb-sublayer (now (rec .entry)) p tt r (now (out .entry)) (now (out .exit)) ⌝ }
 {
-    let buffering = write_steps::put_code(rec, out, p);
+    let buffering = write_codes::put_code(rec, out, p);
     let deep = write_steps::hold(buffering.next, buffering.v <= 15);
-    let reorder = write_steps::put_code(rec, out, deep);
+    let reorder = write_codes::put_code(rec, out, deep);
     let ordered = write_steps::hold(reorder.next, reorder.v <= buffering.v);
-    let latency = write_steps::put_code(rec, out, ordered);
+    let latency = write_codes::put_code(rec, out, ordered);
     latency.next
 }
 
@@ -94,10 +94,10 @@ fn write_dpb_slots(
 fn write_ols_dpb(rec: &[u32], out: &mut [u8], p: Place, slots: u32, multi: u32, i: u32) -> Place
     ensures { λ r. ⌜ Does (ols-dpb slots multi i) (now (rec .entry)) p tt r (now (out .entry)) (now (out .exit)) ⌝ }
 {
-    let width = write_steps::put_code(rec, out, p);
-    let height = write_steps::put_code(rec, out, width.next);
-    let chroma = write_steps::put(rec, out, height.next, 2);
-    let depth = write_steps::put_code(rec, out, chroma.next);
+    let width = write_codes::put_code(rec, out, p);
+    let height = write_codes::put_code(rec, out, width.next);
+    let chroma = write_fields::put(rec, out, height.next, 2);
+    let depth = write_codes::put_code(rec, out, chroma.next);
     let held = write_steps::hold(depth.next, depth.v <= 8);
     write_entries::write_index(rec, out, held, slots, multi, i)
 }
@@ -129,10 +129,10 @@ pub fn write_dpb_section(
 ) -> Sent
     ensures { λ r. ⌜ Does (dpb-section «default_max_tid_flag» «max_sublayers_minus1» multi) (now (rec .entry)) p (r .v) (r .next) (now (out .entry)) (now (out .exit)) ⌝ }
 {
-    let slots = write_steps::put_code_minus1(rec, out, p);
+    let slots = write_codes::put_code_minus1(rec, out, p);
     let held = write_steps::hold(slots.next, slots.v <= multi);
     let kept = record_parts::number_at(rec, SUBLAYER_DPB_PARAMS_PRESENT_FLAG);
-    let flag = write_steps::put_late_if(out, held, 0 < max_sublayers_minus1, 1, kept, 0);
+    let flag = write_fields::put_late_if(out, held, 0 < max_sublayers_minus1, 1, kept, 0);
     let filled = write_dpb_slots(
         rec,
         out,

@@ -100,7 +100,7 @@ fn put_flags(rec: &[u32], out: &mut [u8], p: Place, count: u32) -> Place
     let mut at = p;
     let mut i: u32 = 0;
     while i < count {
-        let flag = write_steps::put(rec, out, at, 1);
+        let flag = write_fields::put(rec, out, at, 1);
         at = flag.next;
         i += 1;
         if at.bad {

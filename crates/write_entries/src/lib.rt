@@ -11,7 +11,7 @@ use write_steps::Sent;
 pub fn write_index(rec: &[u32], out: &mut [u8], p: Place, size: u32, count: u32, i: u32) -> Place
     ensures { λ r. ⌜ ((number : ℕ) → Does (index size count number i) (now (rec .entry)) p tt r (now (out .entry)) (now (out .exit))) ⌝ }
 {
-    let v = write_steps::put_code_if(
+    let v = write_codes::put_code_if(
         rec,
         out,
         p,
@@ -47,7 +47,7 @@ pub fn write_max_tid(
 ) -> Sent
     ensures { λ r. ⌜ ((number : ℕ) → Does (max-tid «default_max_tid_flag» «max_sublayers_minus1» number) (now (rec .entry)) p (r .v) (r .next) (now (out .entry)) (now (out .exit))) ⌝ }
 {
-    let t = write_steps::put_if(
+    let t = write_fields::put_if(
         rec,
         out,
         p,

@@ -15,7 +15,7 @@ use write_steps::Sent;
 fn put_general(rec: &[u32], out: &mut [u8], p: Place, i: usize, width: u32) -> Sent
     ensures { λ r. ⌜ Does (general i (fieldWidth width)) (now (rec .entry)) p (r .v) (r .next) (now (out .entry)) (now (out .exit)) ⌝ }
 {
-    write_steps::put_late(out, p, width, record_parts::number_at(rec, i))
+    write_fields::put_late(out, p, width, record_parts::number_at(rec, i))
 }
 
 // The same where it is coded, else its inferred value.
@@ -30,14 +30,14 @@ pub fn put_general_if(
 ) -> Sent
     ensures { λ r. ⌜ Does (general-if coded i (fieldWidth width) other) (now (rec .entry)) p (r .v) (r .next) (now (out .entry)) (now (out .exit)) ⌝ }
 {
-    write_steps::put_late_if(out, p, coded, width, record_parts::number_at(rec, i), other)
+    write_fields::put_late_if(out, p, coded, width, record_parts::number_at(rec, i), other)
 }
 
 // vps_max_layers_minus1, which is one less than the record's first number; behind a bad place too it is 63 at the most.
 fn put_layers_minus1(rec: &[u32], out: &mut [u8], p: Place) -> Sent
     ensures { λ r. ⌜ (r .v ≤ 63) × Does (late 6 (λ r x. getD r 0 0 - 1) done) (now (rec .entry)) p (r .v) (r .next) (now (out .entry)) (now (out .exit)) ⌝ }
 {
-    let t = write_steps::put_late(
+    let t = write_fields::put_late(
         out,
         p,
         6,
@@ -54,7 +54,7 @@ fn put_layers_minus1(rec: &[u32], out: &mut [u8], p: Place) -> Sent
 pub fn put_within(rec: &[u32], out: &mut [u8], p: Place, width: u32, most: u32) -> Sent
     ensures { λ r. ⌜ (r .v ≤ most) × (2 ^ fieldWidth width ≡ most + 1 → Does (u (fieldWidth width)) (now (rec .entry)) p (r .v) (r .next) (now (out .entry)) (now (out .exit))) ⌝ }
 {
-    let t = write_steps::put(rec, out, p, width);
+    let t = write_fields::put(rec, out, p, width);
     let next = t.next;
     Sent {
         v: vps_header::capped(t.v, most),

@@ -22,13 +22,13 @@ fn write_hrd_scales(
 ) -> SentHrd
     ensures { λ r. ⌜ Does (hrd-scales present nal vcl) (now (rec .entry)) p (hrd-of (r .hrd)) (r .next) (now (out .entry)) (now (out .exit)) ⌝ }
 {
-    let same = write_steps::put_if(rec, out, p, present, 1, 0);
-    let du = write_steps::put_if(rec, out, same.next, present, 1, 0);
-    let divisor = write_steps::put_if(rec, out, du.next, du.v == 1, 8, 0);
-    let rate = write_steps::put_if(rec, out, divisor.next, present, 4, 0);
-    let size = write_steps::put_if(rec, out, rate.next, present, 4, 0);
-    let du_size = write_steps::put_if(rec, out, size.next, du.v == 1, 4, 0);
-    let count = write_steps::put_code_if(rec, out, du_size.next, present, 0);
+    let same = write_fields::put_if(rec, out, p, present, 1, 0);
+    let du = write_fields::put_if(rec, out, same.next, present, 1, 0);
+    let divisor = write_fields::put_if(rec, out, du.next, du.v == 1, 8, 0);
+    let rate = write_fields::put_if(rec, out, divisor.next, present, 4, 0);
+    let size = write_fields::put_if(rec, out, rate.next, present, 4, 0);
+    let du_size = write_fields::put_if(rec, out, size.next, du.v == 1, 4, 0);
+    let count = write_codes::put_code_if(rec, out, du_size.next, present, 0);
     let held = write_steps::hold(count.next, count.v <= 31);
     SentHrd {
         hrd: Hrd {
@@ -45,10 +45,10 @@ fn write_hrd_scales(
 pub fn write_general_timing_hrd(rec: &[u32], out: &mut [u8], p: Place) -> SentHrd
     ensures { λ r. ⌜ Does general-timing-hrd (now (rec .entry)) p (hrd-of (r .hrd)) (r .next) (now (out .entry)) (now (out .exit)) ⌝ }
 {
-    let units = write_steps::put(rec, out, p, 32);
-    let scale = write_steps::put(rec, out, units.next, 32);
-    let nal = write_steps::put(rec, out, scale.next, 1);
-    let vcl = write_steps::put(rec, out, nal.next, 1);
+    let units = write_fields::put(rec, out, p, 32);
+    let scale = write_fields::put(rec, out, units.next, 32);
+    let nal = write_fields::put(rec, out, scale.next, 1);
+    let vcl = write_fields::put(rec, out, nal.next, 1);
     let held = write_steps::hold(vcl.next, vps_entries::are_units_set(units.v, scale.v));
     write_hrd_scales(
         rec,

@@ -33,7 +33,7 @@ fn write_direct_reference(
 {
     let flag = write_header::put_within(rec, out, p, 1, 1);
     let coded = vps_header::both(present == 1, flag.v == 1);
-    let max_tid = write_steps::put_if(rec, out, flag.next, coded, 3, sublayers);
+    let max_tid = write_fields::put_if(rec, out, flag.next, coded, 3, sublayers);
     let next = max_tid.next;
     Sent { v: flag.v, next }
 }
@@ -68,7 +68,7 @@ fn write_direct_references(
 fn write_dependent_layer(rec: &[u32], out: &mut [u8], p: Place, sublayers: u32, i: usize) -> Flags
     ensures { λ r. ⌜ ((most : ℕ) → sublayers ≡ most + 1 → i ≤ 64 → FlagsDone (dependent-layer most i) i (now (rec .entry)) p (r .mask) (r .next) (now (out .entry)) (now (out .exit))) ⌝ }
 {
-    let present = write_steps::put(rec, out, p, 1);
+    let present = write_fields::put(rec, out, p, 1);
     let flags = write_direct_references(rec, out, present.next, present.v, sublayers, i);
     let mask = flags.mask;
     let next = write_steps::hold(flags.next, mask != 0);
@@ -115,7 +115,7 @@ fn write_layer(
     let id = write_header::put_within(rec, out, p, 6, 63);
     let held = write_steps::hold(id.next, least <= id.v);
     let coded = vps_header::both(0 < i, h.all_independent_flag == 0);
-    let independent = write_steps::put_if(rec, out, held, coded, 1, 1);
+    let independent = write_fields::put_if(rec, out, held, coded, 1, 1);
     let sublayers = vps_header::capped(h.max_sublayers_minus1, 7) + 1;
     let flags = write_references(rec, out, independent.next, independent.v, sublayers, i);
     let next = flags.next;

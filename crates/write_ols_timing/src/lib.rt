@@ -20,16 +20,16 @@ fn write_sublayer_hrd_if(rec: &[u32], out: &mut [u8], p: Place, flag: u32, hrd: 
 fn write_timing_sublayer(rec: &[u32], out: &mut [u8], p: Place, hrd: Hrd) -> Place
     ensures { λ r. ⌜ Does (timing-sublayer (hrd-of hrd)) (now (rec .entry)) p tt r (now (out .entry)) (now (out .exit)) ⌝ }
 {
-    let general = write_steps::put(rec, out, p, 1);
-    let within = write_steps::put_if(rec, out, general.next, general.v == 0, 1, 1);
-    let duration = write_steps::put_code_if(rec, out, within.next, within.v == 1, 0);
+    let general = write_fields::put(rec, out, p, 1);
+    let within = write_fields::put_if(rec, out, general.next, general.v == 0, 1, 1);
+    let duration = write_codes::put_code_if(rec, out, within.next, within.v == 1, 0);
     let held = write_steps::hold(duration.next, duration.v <= 2047);
     let coded = vps_entries::is_low_delay_coded(
         within.v,
         vps_entries::is_hrd_present(hrd.nal, hrd.vcl),
         hrd.cpb_cnt_minus1,
     );
-    let delay = write_steps::put_if(rec, out, held, coded, 1, 0);
+    let delay = write_fields::put_if(rec, out, held, coded, 1, 0);
     let nal = write_sublayer_hrd_if(rec, out, delay.next, hrd.nal, hrd);
     write_sublayer_hrd_if(rec, out, nal, hrd.vcl, hrd)
 }

@@ -12,8 +12,8 @@ fn write_profile_and_tier(rec: &[u32], out: &mut [u8], p: Place, present: u32) -
     if present == 0 {
         return p;
     }
-    let profile = write_steps::put(rec, out, p, 7);
-    let tier = write_steps::put(rec, out, profile.next, 1);
+    let profile = write_fields::put(rec, out, p, 7);
+    let tier = write_fields::put(rec, out, profile.next, 1);
     tier.next
 }
 
@@ -24,7 +24,7 @@ fn write_sub_profiles(rec: &[u32], out: &mut [u8], p: Place, present: u32) -> Pl
     if present == 0 {
         return p;
     }
-    let count = write_steps::put(rec, out, p, 8);
+    let count = write_fields::put(rec, out, p, 8);
     write_constraints::write_fields(rec, out, count.next, count.v, 32)
 }
 
@@ -34,7 +34,7 @@ fn write_from_sublayers(rec: &[u32], out: &mut [u8], p: Place, present: u32, max
 {
     let count = ptl_slots::sum_numbers(rec, p.c, max_tid);
     let flags = write_constraints::write_reversed(rec, out, p, max_tid as usize, 1);
-    let boundary = write_steps::align(out, flags);
+    let boundary = write_fields::align(out, flags);
     let levels = write_constraints::write_reversed(rec, out, boundary, count, 8);
     write_sub_profiles(rec, out, levels, present)
 }
@@ -43,9 +43,9 @@ fn write_from_sublayers(rec: &[u32], out: &mut [u8], p: Place, present: u32, max
 fn write_from_level(rec: &[u32], out: &mut [u8], p: Place, present: u32, max_tid: u32) -> Place
     ensures { λ r. ⌜ Does (from-level present «max_tid») (now (rec .entry)) p tt r (now (out .entry)) (now (out .exit)) ⌝ }
 {
-    let level = write_steps::put(rec, out, p, 8);
-    let frame_only = write_steps::put(rec, out, level.next, 1);
-    let multilayer = write_steps::put(rec, out, frame_only.next, 1);
+    let level = write_fields::put(rec, out, p, 8);
+    let frame_only = write_fields::put(rec, out, level.next, 1);
+    let multilayer = write_fields::put(rec, out, frame_only.next, 1);
     let constraints = write_constraints::write_general_constraints_info(
         rec,
         out,

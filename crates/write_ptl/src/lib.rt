@@ -24,9 +24,9 @@ fn write_head(
     ensures { λ r. ⌜ Headed (now (rec .entry)) «default_max_tid» «max_sublayers_minus1» at i p r (now (out .entry)) (now (out .exit)) ⌝ }
 {
     let flag = ptl_slots::number_from(rec, at, 0);
-    let present = write_steps::put_late_if(out, p, 0 < i, 1, flag, 1);
+    let present = write_fields::put_late_if(out, p, 0 < i, 1, flag, 1);
     let tid = ptl_slots::number_from(rec, at, 1);
-    let max_tid = write_steps::put_late_if(
+    let max_tid = write_fields::put_late_if(
         out,
         present.next,
         default_max_tid == 0,
@@ -116,7 +116,7 @@ fn write_slot_count(rec: &[u32], out: &mut [u8], p: Place, layers: u32) -> Sent
     if layers == 1 {
         return write_steps::keep(rec, p, 1);
     }
-    write_steps::put_minus1(rec, out, p)
+    write_fields::put_minus1(rec, out, p)
 }
 
 // The PTL section: the slots' number, which comes back, their heads, and the slots.
@@ -141,7 +141,7 @@ pub fn write_ptl_section(
         default_max_tid,
         max_sublayers_minus1,
     );
-    let boundary = write_steps::align(out, heads);
+    let boundary = write_fields::align(out, heads);
     let slots = write_slots(
         rec,
         out,

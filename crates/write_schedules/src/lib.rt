@@ -13,8 +13,8 @@ fn write_du_values(rec: &[u32], out: &mut [u8], p: Place, du: u32) -> Place
     if du == 0 {
         return p;
     }
-    let size = write_steps::put_code(rec, out, p);
-    let rate = write_steps::put_code(rec, out, size.next);
+    let size = write_codes::put_code(rec, out, p);
+    let rate = write_codes::put_code(rec, out, size.next);
     rate.next
 }
 
@@ -22,10 +22,10 @@ fn write_du_values(rec: &[u32], out: &mut [u8], p: Place, du: u32) -> Place
 fn write_schedule(rec: &[u32], out: &mut [u8], p: Place, du: u32) -> Place
     ensures { λ r. ⌜ Does (schedule du) (now (rec .entry)) p tt r (now (out .entry)) (now (out .exit)) ⌝ }
 {
-    let rate = write_steps::put_code(rec, out, p);
-    let size = write_steps::put_code(rec, out, rate.next);
+    let rate = write_codes::put_code(rec, out, p);
+    let size = write_codes::put_code(rec, out, rate.next);
     let values = write_du_values(rec, out, size.next, du);
-    let constant = write_steps::put(rec, out, values, 1);
+    let constant = write_fields::put(rec, out, values, 1);
     constant.next
 }
 

@@ -70,7 +70,7 @@ fn write_multi_layer_sections(
         multi,
     );
     let behind = slots.next;
-    let present = write_steps::put(rec, out, behind, 1);
+    let present = write_fields::put(rec, out, behind, 1);
     let next = write_timing_if(
         rec,
         out,

@@ -106,7 +106,7 @@ fn write_rows(
 fn put_count(rec: &[u32], out: &mut [u8], p: Place) -> Sent
     ensures { λ r. ⌜ (r .v ≤ 256) × Does (u-minus1 8) (now (rec .entry)) p (r .v) (r .next) (now (out .entry)) (now (out .exit)) ⌝ }
 {
-    let t = write_steps::put_minus1(rec, out, p);
+    let t = write_fields::put_minus1(rec, out, p);
     let next = t.next;
     Sent {
         v: vps_header::capped(t.v, 256),

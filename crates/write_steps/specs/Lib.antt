@@ -3,3 +3,4 @@ pub mod Pushes
 pub mod Laws
 pub mod Turns
 pub mod Marked
+pub mod Steps

@@ -70,8 +70,8 @@ pub fn write_timing_section(
     ensures { λ r. ⌜ Does (timing-section «default_max_tid_flag» «max_sublayers_minus1» multi) (now (rec .entry)) p tt r (now (out .entry)) (now (out .exit)) ⌝ }
 {
     let general = write_hrd::write_general_timing_hrd(rec, out, p);
-    let flag = write_steps::put_if(rec, out, general.next, 0 < max_sublayers_minus1, 1, 0);
-    let entries = write_steps::put_code_minus1(rec, out, flag.next);
+    let flag = write_fields::put_if(rec, out, general.next, 0 < max_sublayers_minus1, 1, 0);
+    let entries = write_codes::put_code_minus1(rec, out, flag.next);
     let held = write_steps::hold(entries.next, entries.v <= multi);
     let listed = write_timing_entries(
         rec,

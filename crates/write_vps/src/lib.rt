@@ -89,7 +89,7 @@ pub fn write_vps(rec: &[u32], out: &mut [u8], p: Place) -> Whole
     let levels = ptls.next;
     let olss = write_sections::write_ols_section(rec, out, levels, ptls.v, sets.total);
     let buffers = write_buffers(rec, out, olss, h, sets.each_layer_flag, sets.multi);
-    let flag = write_steps::put_late(out, buffers.next, 1, record_parts::number_at(rec, 8));
+    let flag = write_fields::put_late(out, buffers.next, 1, record_parts::number_at(rec, 8));
     let next = flag.next;
     Whole {
         header: h,

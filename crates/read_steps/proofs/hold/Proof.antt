@@ -3,7 +3,7 @@ use mathlib.Core.Path.{refl}
 use Rattle.vps_definition.specs.Syntax.{run}
 use Rattle.vps_definition.specs.Words.{check}
 use Rattle.read_steps.specs.Laws.{meets-done, meets-yes, meets-no}
-use Rattle.read_steps.proofs.Steps.{stops, stays-shut}
+use Rattle.read_steps.specs.Steps.{stops, stays-shut}
 use Rattle.read_steps.proofs.hold.Statement.{statement}
 use Rattle.read_steps.proofs.hold.Tie as tie
 

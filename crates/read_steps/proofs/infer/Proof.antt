@@ -6,7 +6,7 @@ use Rattle.vps_definition.specs.Words.{inferred}
 use Rattle.vps_laws.specs.Inversion.Reads.{read-keep, read-done}
 use Rattle.read_steps.specs.Fits.{Fits}
 use Rattle.read_steps.specs.Laws.{meets-shut}
-use Rattle.read_steps.proofs.Steps.{opens, closes, stores}
+use Rattle.read_steps.specs.Steps.{opens, closes, stores}
 use Rattle.read_steps.proofs.infer.Statement.{statement}
 use Rattle.read_steps.proofs.infer.Tie as tie
 

@@ -1,6 +1,6 @@
 -- Each test rules one case out.
 use borrow.Author.Needs.{needs}
-use Rattle.read_steps.proofs.Steps.{tests}
+use Rattle.read_steps.specs.Steps.{tests}
 use Rattle.read_steps.proofs.is_open.Statement.{statement}
 use Rattle.read_steps.proofs.is_open.Tie as tie
 

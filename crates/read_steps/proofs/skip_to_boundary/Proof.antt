@@ -6,7 +6,7 @@ use Rattle.vps_definition.specs.Words.{nothing, aligned}
 use Rattle.vps_laws.specs.Inversion.Reads.{pass-align, read-done}
 use Rattle.read_steps.specs.Fits.{Fits}
 use Rattle.read_steps.specs.Laws.{meets-shut}
-use Rattle.read_steps.proofs.Steps.{opens, closes, passes}
+use Rattle.read_steps.specs.Steps.{opens, closes, passes}
 use Rattle.read_steps.proofs.skip_to_boundary.Statement.{statement}
 use Rattle.read_steps.proofs.skip_to_boundary.Tie as tie
 

@@ -4,7 +4,7 @@ use mathlib.Core.Path.{refl}
 use Rattle.vps_definition.specs.Syntax.{emit}
 use Rattle.vps_definition.specs.Words.{check}
 use Rattle.write_steps.specs.Laws.{does-done, does-yes, does-no}
-use Rattle.write_steps.proofs.Steps.{does-bad}
+use Rattle.write_steps.specs.Steps.{does-bad}
 use Rattle.write_steps.proofs.hold.Statement.{statement}
 use Rattle.write_steps.proofs.hold.Tie as tie
 

@@ -3,7 +3,7 @@ use borrow.Author.Needs.{needs}
 use mathlib.Core.Path.{refl}
 use Rattle.vps_definition.specs.Syntax.{numbers, emit}
 use Rattle.vps_definition.specs.Words.{inferred}
-use Rattle.write_steps.proofs.Steps.{does-push, does-none, does-bad, stays-put, kept-emits, other-emits}
+use Rattle.write_steps.specs.Steps.{does-push, does-none, does-bad, stays-put, kept-emits, other-emits}
 use Rattle.write_steps.proofs.keep.Statement.{statement}
 use Rattle.write_steps.proofs.keep.Tie as tie
 

@@ -2,7 +2,7 @@
 use borrow.Author.Needs.{needs}
 use borrow.Author.Tests.{not-true, not-false}
 use Rattle.write_steps.specs.Laws.{not-both}
-use Rattle.write_steps.proofs.Steps.{tests}
+use Rattle.write_steps.specs.Steps.{tests}
 use Rattle.write_steps.proofs.takes.Statement.{statement}
 use Rattle.write_steps.proofs.takes.Tie as tie
 
