@@ -65,7 +65,7 @@ pub fn is_open(c: Cursor) -> bool
 pub fn shut(c: Cursor) -> Cursor
     ensures { λ r. ⌜ Shuts c r ⌝ }
 {
-    if c.refused != 0 {
+    if 0 < c.refused {
         return c;
     }
     Cursor {

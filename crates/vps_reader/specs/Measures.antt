@@ -45,9 +45,14 @@ pub record Found (s : List ℕ) (w : Whole) (count bits : ℕ) : Type 0 where
   pub extension : count ≡ extensionBits (w .«extension_flag») s (w .next .at)
   pub ends : trailingAt s (w .next .at + count) ≡ success bits
 
-abbrev pub Measures : List ℕ → Measured → Type 0
-Measures s (Refused n) = readLimited s ≡ refuses n
-Measures s (Read w count bits) = Found s w count bits
+-- and the table's numbers stand in the lent list, as far as it reaches
+pub record Kept (s lent lent′ : List ℕ) (w : Whole) (count bits : ℕ) : Type 0 where
+  pub found : Found s w count bits
+  pub stored : lent′ ≡ sets lent 9 (numbers (found .table .kept))
+
+abbrev pub Measures : List ℕ → List ℕ → List ℕ → Measured → Type 0
+Measures s lent lent′ (Refused n) = readLimited s ≡ refuses n
+Measures s lent lent′ (Read w count bits) = Kept s lent lent′ w count bits
 
 -- ── From the code's reading of the table ──────────────────────────────
 -- a cursor at the first bit, with room for General before the first number
@@ -156,8 +161,8 @@ pub found-starts : {s : List ℕ} {w : Whole} {count bits : ℕ} → Found s w c
 found-starts F k = omega (arith, ap (λ (l : List ℕ). getD l k 0) (F .table .sections), starts-most 9 (F .table .kept) k, F .table .count, found-most F)
 
 -- ── By its cases ──────────────────────────────────────────────────────
-pub measured-read : {s : List ℕ} {m : Measured} {w : Whole} {count bits : ℕ} → Measures s m → m ≡ Read w count bits → Found s w count bits
-measured-read {s} M e = subst (Measures s) e M
+pub measured-read : {s lent lent′ : List ℕ} {m : Measured} {w : Whole} {count bits : ℕ} → Measures s lent lent′ m → m ≡ Read w count bits → Kept s lent lent′ w count bits
+measured-read {s} {lent} {lent′} M e = subst (Measures s lent lent′) e M
 
-pub measured-refused : (s : List ℕ) {m : Measured} {n : ℕ} → Measures s m → m ≡ Refused n → readLimited s ≡ refuses n
-measured-refused s M e = subst (Measures s) e M
+pub measured-refused : (s lent lent′ : List ℕ) {m : Measured} {n : ℕ} → Measures s lent lent′ m → m ≡ Refused n → readLimited s ≡ refuses n
+measured-refused s lent lent′ M e = subst (Measures s lent lent′) e M

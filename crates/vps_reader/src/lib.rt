@@ -7,12 +7,13 @@ ghost use lib.Seq.{sets};
 ghost use Rattle.stuffing.specs.Stuffing.{unstuff};
 ghost use Rattle.bits.specs.Reading.{trailingAt};
 ghost use Rattle.bit_reader.specs.Answers.{movedAnswer};
-ghost use Rattle.vps_definition.specs.Record.{recordOf};
+ghost use Rattle.vps_definition.specs.Syntax.{numbers};
 ghost use Rattle.vps_definition.specs.Reading.{bitsAt, extensionBits, readLimited, most-rbsp-bytes};
 ghost use Rattle.read_steps.specs.Fits.{limit};
 ghost use Rattle.read_vps.specs.Whole.{generalIn, startsIn};
 ghost use Rattle.vps_reader.specs.Parse.{parsePayload, parseUnit};
-ghost use Rattle.vps_reader.specs.Measures.{Found, Measures, recordIn};
+ghost use Rattle.vps_reader.specs.Copied.{part};
+ghost use Rattle.vps_reader.specs.Measures.{Table, Found, Kept, Measures, recordIn};
 ghost use Rattle.vps_reader.specs.Answers.{Answers, Gives};
 use bit_reader::Moved;
 use read_steps::Cursor;
@@ -62,15 +63,14 @@ fn read_end(bytes: &[u8], at: usize) -> Moved
     rbsp_fields::read_trailing(bytes, at)
 }
 
-// The first pass: nothing is stored.
-fn measure(bytes: &[u8]) -> Measured
-    ensures { λ r. ⌜ Measures (now (bytes .entry)) r ⌝ }
+// The first pass: the table's numbers are stored in another list, as far as it reaches.
+fn measure(bytes: &[u8], small: &mut [u32]) -> Measured
+    ensures { λ r. ⌜ Measures (now (bytes .entry)) (now (small .entry)) (now (small .exit)) r ⌝ }
 {
     if Parsed::MOST_RBSP_BYTES < bytes.len() {
         return Measured::Refused(RBSP_TOO_LONG);
     }
-    let mut none = [0u32; 1];
-    let whole = read_vps::read_vps(bytes, &mut none, Cursor::new(Whole::GENERAL));
+    let whole = read_vps::read_vps(bytes, small, Cursor::new(Whole::GENERAL));
     let next = whole.next;
     if next.refused != 0 {
         return Measured::Refused(next.refused);
@@ -122,41 +122,82 @@ fn store_trailer(rec: &mut [u32], n: usize, w: Whole)
     store_number(rec, n + 7, n + Whole::TRAILER);
 }
 
-// The second pass: the whole record is stored.
-fn fill(bytes: &[u8], rec: &mut [u32], w: Whole, count: usize)
-    requires { ⌜ w .next .n + count + 9 < 2 ^ 32 ⌝ }
-    ensures { λ _. ⌜ ((bits : ℕ) (F : Found (now (bytes .entry)) w count bits) → now (rec .exit) ≡ sets (now (rec .entry)) 0 (recordIn F)) ⌝ }
+// Copies the numbers from one place to another.
+fn copy(from: &[u32], rec: &mut [u32], first: usize, end: usize)
+    requires { ⌜ (end ≤ length (now from)) × (end ≤ length (now rec)) ⌝ }
+    ensures { λ _. ⌜ now (rec .exit) ≡ sets (now (rec .entry)) first (part (now (from .entry)) first end) ⌝ }
 {
-    store_general(rec, w);
+    let mut i = first;
+    while i < end {
+        rec[i] = from[i];
+        i += 1;
+    }
+}
+
+// The table's numbers up to number n: copied where the first pass has kept them all, else read again.
+fn store_table(bytes: &[u8], small: &[u32], rec: &mut [u32], n: usize)
+    requires { ⌜ n ≤ length (now rec) ⌝ }
+    ensures { λ _. ⌜ ((w : Whole) (T : Table (now (bytes .entry)) w) (lent : List ℕ) → n ≡ w .next .n → now (small .entry) ≡ sets lent 9 (numbers (T .kept)) → now (rec .exit) ≡ sets (now (rec .entry)) 9 (numbers (T .kept))) ⌝ }
+{
+    if n <= small.len() {
+        copy(small, rec, Whole::GENERAL, n);
+        return;
+    }
     read_vps::read_vps(bytes, rec, Cursor::new(Whole::GENERAL));
+}
+
+// The second pass: the whole record is stored.
+fn fill(bytes: &[u8], small: &[u32], rec: &mut [u32], w: Whole, count: usize)
+    requires { ⌜ (w .next .n + count + 9 < 2 ^ 32) × (w .next .n + count + 9 ≤ length (now rec)) ⌝ }
+    ensures { λ _. ⌜ ((bits : ℕ) (lent : List ℕ) (K : Kept (now (bytes .entry)) lent (now (small .entry)) w count bits) → now (rec .exit) ≡ sets (now (rec .entry)) 0 (recordIn (K .found))) ⌝ }
+{
     let next = w.next;
+    store_general(rec, w);
+    store_table(bytes, small, rec, next.n);
     store_number(rec, next.n, count);
     read_extension::store_bits(bytes, rec, next.n + 1, next.at, count);
     store_trailer(rec, next.n + 1 + count, w);
 }
 
 // The record where it fits.
-fn fill_where_room(bytes: &[u8], record: &mut [u32], w: Whole, count: usize, bits: usize) -> Parsed
+fn fill_where_room(
+    bytes: &[u8],
+    small: &[u32],
+    record: &mut [u32],
+    w: Whole,
+    count: usize,
+    bits: usize,
+) -> Parsed
     requires { ⌜ w .next .n + count + 9 < 2 ^ 32 ⌝ }
-    ensures { λ r. ⌜ (Found (now (bytes .entry)) w count bits → Answers (now («record» .entry)) (readLimited (now (bytes .entry))) r (now («record» .exit))) ⌝ }
+    ensures { λ r. ⌜ ((lent : List ℕ) → Kept (now (bytes .entry)) lent (now (small .entry)) w count bits → Answers (now («record» .entry)) (readLimited (now (bytes .entry))) r (now («record» .exit))) ⌝ }
 {
     let next = w.next;
     let needed = next.n + count + 1 + Whole::TRAILER;
     if record.len() < needed {
         return Parsed::TooShort(needed);
     }
-    fill(bytes, record, w, count);
+    fill(bytes, small, record, w, count);
     Parsed::Accepted(needed, bits)
+}
+
+// An RBSP, into a lent record, by way of another list, which keeps the table of a small one.
+fn parse_by_way_of(bytes: &[u8], small: &mut [u32], record: &mut [u32]) -> Parsed
+    ensures { λ r. ⌜ Answers (now («record» .entry)) (readLimited (now (bytes .entry))) r (now («record» .exit)) ⌝ }
+{
+    match measure(bytes, small) {
+        Measured::Refused(n) => Parsed::Refused(n),
+        Measured::Read(whole, count, bits) => {
+            fill_where_room(bytes, small, record, whole, count, bits)
+        }
+    }
 }
 
 // An RBSP, into a lent record.
 pub fn parse_rbsp(bytes: &[u8], record: &mut [u32]) -> Parsed
     ensures { λ r. ⌜ Answers (now («record» .entry)) (readLimited (now (bytes .entry))) r (now («record» .exit)) ⌝ }
 {
-    match measure(bytes) {
-        Measured::Refused(n) => Parsed::Refused(n),
-        Measured::Read(whole, count, bits) => { fill_where_room(bytes, record, whole, count, bits) }
-    }
+    let mut small = [0u32; 128];
+    parse_by_way_of(bytes, &mut small, record)
 }
 
 // A payload, into a lent record, by way of the work buffer.
