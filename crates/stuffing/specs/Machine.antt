@@ -18,6 +18,13 @@ kept z b = cond (dropped z b) [] (b ∷ [])
 abbrev pub zerosKept : ℕ → ℕ → ℕ
 zerosKept z b = cond (dropped z b) 0 (zerosBehind z b)
 
+-- the zeros that end in the second of two bytes, and whether a byte up to 03 gets one before it there
+abbrev pub zerosIn : ℕ → ℕ → ℕ
+zerosIn a b = cond (eqb b 0) (cond (eqb a 0) 2 1) 0
+
+abbrev pub moreIn : ℕ → ℕ → ℕ
+moreIn a b = cond (leb 2 (zerosIn a b)) 1 0
+
 -- bytes behind z zeros
 unfoldable pub unstuffBehind : ℕ → List ℕ → List ℕ
 unstuffBehind z [] = []

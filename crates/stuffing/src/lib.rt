@@ -1,9 +1,11 @@
 // Adds emulation prevention bytes to an RBSP and removes them from a NAL unit's payload.
+ghost use Prim.Native.Nat.{_≤_};
 ghost use mathlib.Core.Path.{_≡_};
+ghost use lib.Dec.{leb};
 ghost use lib.ListN.{length, set};
 ghost use lib.Seq.{sets};
 ghost use Rattle.stuffing.specs.Stuffing.{guarded, zerosBehind, unstuff, stuff};
-ghost use Rattle.stuffing.specs.Machine.{dropped};
+ghost use Rattle.stuffing.specs.Machine.{dropped, zerosIn, moreIn};
 ghost use Rattle.stuffing.specs.Answers.{Lends};
 use refusals::OUTPUT_TOO_SHORT;
 
@@ -40,92 +42,175 @@ pub fn is_guarded(zeros: u32, b: u8) -> bool
     if zeros >= 2 { b <= 3 } else { false }
 }
 
-// Whether a byte behind so many zeros is a 03 to be dropped.
-fn is_dropped(zeros: u32, b: u8) -> bool
-    ensures { λ r. ⌜ r ≡ dropped zeros b ⌝ }
+// Whether a byte behind two others is a 03 to be dropped.
+fn is_dropped(before: u8, last: u8, b: u8) -> bool
+    ensures { λ r. ⌜ r ≡ dropped (zerosIn before last) b ⌝ }
 {
-    if zeros >= 2 { b == 3 } else { false }
-}
-
-// Stores what removing leaves where it fits, and counts it in any case.
-fn remove(ebsp: &[u8], out: &mut [u8]) -> usize
-    ensures { λ r. ⌜ (r ≡ length (unstuff (now (ebsp .entry)))) × (now (out .exit) ≡ sets (now (out .entry)) 0 (unstuff (now (ebsp .entry)))) ⌝ }
-{
-    let mut i = 0;
-    let mut n = 0;
-    let mut zeros = 0;
-    while i < ebsp.len() {
-        let b = ebsp[i];
-        i += 1;
-        if is_dropped(zeros, b) {
-            zeros = 0;
-        } else {
-            store(out, n, b);
-            n += 1;
-            zeros = zeros_behind(zeros, b);
-        }
+    if b != 3 {
+        return false;
     }
-    n
+    if last != 0 {
+        return false;
+    }
+    before == 0
 }
 
 // The length of what removing leaves.
 pub fn rbsp_length(ebsp: &[u8]) -> usize
     ensures { λ r. ⌜ r ≡ length (unstuff (now (ebsp .entry))) ⌝ }
 {
-    let mut none = [0u8; 1];
-    remove(ebsp, &mut none)
+    let mut i = 0;
+    let mut n = 0;
+    let mut before = 1;
+    let mut last = 1;
+    while i < ebsp.len() {
+        let b = ebsp[i];
+        i += 1;
+        if is_dropped(before, last, b) {
+            last = 1;
+        } else {
+            n += 1;
+            before = last;
+            last = b;
+        }
+    }
+    n
 }
 
-// Stores what adding makes where it fits, and counts it in any case.
-fn add(rbsp: &[u8], out: &mut [u8]) -> usize
-    ensures { λ r. ⌜ (r ≡ length (stuff (now (rbsp .entry)))) × (now (out .exit) ≡ sets (now (out .entry)) 0 (stuff (now (rbsp .entry)))) ⌝ }
+// Stores what removing leaves, where there is room for it, and counts it.
+fn remove(ebsp: &[u8], out: &mut [u8]) -> usize
+    requires { ⌜ length (unstuff (now ebsp)) ≤ length (now out) ⌝ }
+    ensures { λ r. ⌜ (r ≡ length (unstuff (now (ebsp .entry)))) × (now (out .exit) ≡ sets (now (out .entry)) 0 (unstuff (now (ebsp .entry)))) ⌝ }
 {
     let mut i = 0;
     let mut n = 0;
-    let mut zeros = 0;
-    while i < rbsp.len() {
-        let b = rbsp[i];
+    let mut before = 1;
+    let mut last = 1;
+    while i < ebsp.len() {
+        let b = ebsp[i];
         i += 1;
-        if is_guarded(zeros, b) {
-            store(out, n, 3);
-            store(out, n + 1, b);
-            n += 2;
-            zeros = zeros_behind(0, b);
+        if is_dropped(before, last, b) {
+            last = 3;
         } else {
-            store(out, n, b);
+            out[n] = b;
             n += 1;
-            zeros = zeros_behind(zeros, b);
+            before = last;
+            last = b;
         }
     }
-    if zeros >= 2 {
-        store(out, n, 3);
-        n + 1
-    } else {
-        n
+    n
+}
+
+// Whether what removing leaves has room.
+fn has_room_removed(ebsp: &[u8], room: usize) -> bool
+    ensures { λ r. ⌜ r ≡ leb (length (unstuff (now (ebsp .entry)))) room ⌝ }
+{
+    if ebsp.len() <= room {
+        return true;
     }
+    rbsp_length(ebsp) <= room
 }
 
 // Removes the stuffing of a payload into a lent output.
 pub fn ebsp_to_rbsp(ebsp: &[u8], rbsp: &mut [u8]) -> Stuffed
     ensures { λ r. ⌜ Lends (unstuff (now (ebsp .entry))) (now (rbsp .entry)) r (now (rbsp .exit)) ⌝ }
 {
-    let n = remove(ebsp, &mut rbsp[..0]);
-    if n <= rbsp.len() {
-        remove(ebsp, rbsp);
-        Stuffed::Done(n)
+    if has_room_removed(ebsp, rbsp.len()) {
+        Stuffed::Done(remove(ebsp, rbsp))
     } else {
         Stuffed::Refused(OUTPUT_TOO_SHORT)
     }
+}
+
+// How many bytes a byte up to 03 behind two others gets before it.
+fn more_before(before: usize, last: usize) -> usize
+    ensures { λ r. ⌜ (r ≡ moreIn before last) × (r ≤ 1) ⌝ }
+{
+    if last != 0 {
+        0
+    } else if before != 0 {
+        0
+    } else {
+        1
+    }
+}
+
+// The length of what adding makes.
+fn ebsp_length(rbsp: &[u8]) -> usize
+    ensures { λ r. ⌜ r ≡ length (stuff (now (rbsp .entry))) ⌝ }
+{
+    let mut i = 0;
+    let mut n = 0;
+    let mut before: usize = 1;
+    let mut last: usize = 1;
+    while i < rbsp.len() {
+        let b = rbsp[i];
+        i += 1;
+        if b > 3 {
+            n += 1;
+            last = 4;
+        } else {
+            let more = more_before(before, last);
+            n += 1 + more;
+            before = last + more;
+            last = b as usize;
+        }
+    }
+    n + more_before(before, last)
+}
+
+// Stores what adding makes, where there is room for it, and counts it.
+fn add(rbsp: &[u8], out: &mut [u8]) -> usize
+    requires { ⌜ length (stuff (now rbsp)) ≤ length (now out) ⌝ }
+    ensures { λ r. ⌜ (r ≡ length (stuff (now (rbsp .entry)))) × (now (out .exit) ≡ sets (now (out .entry)) 0 (stuff (now (rbsp .entry)))) ⌝ }
+{
+    let mut i = 0;
+    let mut n = 0;
+    let mut before: usize = 1;
+    let mut last: usize = 1;
+    while i < rbsp.len() {
+        let b = rbsp[i];
+        i += 1;
+        if b > 3 {
+            out[n] = b;
+            n += 1;
+            last = 4;
+        } else {
+            let more = more_before(before, last);
+            out[n] = 3;
+            out[n + more] = b;
+            n += 1 + more;
+            before = last + more;
+            last = b as usize;
+        }
+    }
+    if more_before(before, last) == 1 {
+        out[n] = 3;
+        n + 1
+    } else {
+        n
+    }
+}
+
+// Whether what adding makes has room: at most one byte is added for two.
+fn has_room_added(rbsp: &[u8], room: usize) -> bool
+    ensures { λ r. ⌜ r ≡ leb (length (stuff (now (rbsp .entry)))) room ⌝ }
+{
+    if room < rbsp.len() {
+        return false;
+    }
+    if rbsp.len() / 2 <= room - rbsp.len() {
+        return true;
+    }
+    ebsp_length(rbsp) <= room
 }
 
 // Adds stuffing to an RBSP into a lent output.
 pub fn rbsp_to_ebsp(rbsp: &[u8], ebsp: &mut [u8]) -> Stuffed
     ensures { λ r. ⌜ Lends (stuff (now (rbsp .entry))) (now (ebsp .entry)) r (now (ebsp .exit)) ⌝ }
 {
-    let n = add(rbsp, &mut ebsp[..0]);
-    if n <= ebsp.len() {
-        add(rbsp, ebsp);
-        Stuffed::Done(n)
+    if has_room_added(rbsp, ebsp.len()) {
+        Stuffed::Done(add(rbsp, ebsp))
     } else {
         Stuffed::Refused(OUTPUT_TOO_SHORT)
     }

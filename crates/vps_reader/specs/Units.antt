@@ -2,15 +2,19 @@
 use Prim.Native.Nat.{ℕ, _-_, _/_, _≤_, _<_}
 use mathlib.Core.Path.{_≡_, refl, sym, ap, _∙_, subst}
 use mathlib.Core.List.{List, [], _∷_, _++_}
-use mathlib.Core.Bool.{true, false, cond}
+use mathlib.Core.Bool.{Bool, true, false, cond}
 use native.Mathlib.Omega.{arith}
-use borrow.Author.Tests.{le-leb, lt-leb, eq-eqb, ne-eqb}
-use lib.Dec.{leb, eqb}
+use borrow.Author.Tests.{le-leb, lt-leb, leb-true, leb-false, le-ltb, eq-eqb, ne-eqb}
+use lib.Dec.{leb, ltb, eqb}
 use lib.ListN.{length, getD, take, drop, length-append}
 use lib.Seq.{take-length, take-append-seam}
-use Rattle.refusals.specs.Number.{unit-too-short, not-a-vps, rbsp-too-long, work-too-short}
+use Rattle.refusals.specs.Answer.Answer.{success, refusal}
+use Rattle.refusals.specs.Number.{unit-too-short, not-a-vps, rbsp-too-long, work-too-short, output-too-short}
 use Rattle.stuffing.specs.Stuffing.{unstuff}
-use Rattle.stuffing.specs.Answers.{outputAfter}
+use Rattle.stuffing.specs.Laws.{unstuff-length}
+use Rattle.stuffing.specs.Answers.{stuffedAnswer, lent, outputAfter, Lends}
+use Rattle.stuffing.specs.declared.Stuffed.{Stuffed}
+use Rattle.stuffing.specs.declared.Stuffed as Said
 use Rattle.vps_definition.specs.Reading.{readRbsp, readLimited, most-rbsp-bytes, vps-nut}
 use Rattle.vps_reader.specs.Parse.{overlaid, untouched, parseOf, recordAfter, parseRbsp, parsePayload, parseUnit}
 use Rattle.vps_reader.specs.Parse as Parse
@@ -62,6 +66,10 @@ module _ (u work lent : List ℕ) where
   gives-payload l t G = gives-as (headed l ∙ rw (eq-eqb (getD u 1 0 / 8) vps-nut t) (ap (λ (p : List ℕ). parsePayload (unstuff p) work lent) (sym (rest u)))) G
 
 -- ── The payload ───────────────────────────────────────────────────────
+-- a payload that is short enough has an RBSP that is
+pub short-payload : (s : List ℕ) → length s ≤ most-rbsp-bytes → false ≡ ltb most-rbsp-bytes (length (unstuff s))
+short-payload s h = sym (le-ltb most-rbsp-bytes (length (unstuff s)) (omega (arith, unstuff-length s)))
+
 module _ (s work lent : List ℕ) where
   -- 3: too long an RBSP
   pub gives-long : most-rbsp-bytes < length s → Gives (parsePayload s work lent) (Refused rbsp-too-long) work lent
@@ -70,9 +78,11 @@ module _ (s work lent : List ℕ) where
 
   module _ (k : length s ≤ most-rbsp-bytes) where
     -- 4: too short a work buffer
-    pub gives-narrow : length work < length s → Gives (parsePayload s work lent) (Refused work-too-short) work lent
+    pub gives-narrow : {work′ : List ℕ} → (length work < length s) × (work′ ≡ work) → Gives (parsePayload s work lent) (Refused work-too-short) work′ lent
     unfolding parsePayload
-    gives-narrow n = gives-as (rw (le-leb (length s) most-rbsp-bytes k, lt-leb (length s) (length work) n) refl) refuses-all
+    gives-narrow (n, w) =
+        gives-as {y = untouched work-too-short work lent} (rw (le-leb (length s) most-rbsp-bytes k, lt-leb (length s) (length work) n) refl)
+        (record { answered = refl; worked = w; left = refl })
 
     -- from 5 on, as the RBSP is read
     pub gives-rbsp : {r : Parsed} {work′ lent′ : List ℕ} (x : List ℕ) → length s ≤ length work → work′ ≡ outputAfter s work → x ≡ s → Answers lent (readLimited x) r lent′ → Gives (parsePayload s work lent) r work′ lent′
@@ -83,14 +93,38 @@ module _ (s work lent : List ℕ) where
         gives-as {y = parseRbsp s work lent} (rw (le-leb (length s) most-rbsp-bytes k, f) refl)
         (record { answered = A .answered ∙ ap (parseOf lent) e; worked = w ∙ rw f refl; left = A .left ∙ ap (recordAfter lent) e })
 
--- the work buffer then begins with the RBSP
-module _ (s work : List ℕ) where
-  pub begins-with : {n : ℕ} {work′ : List ℕ} → length s ≤ length work → work′ ≡ outputAfter s work → n ≡ length s → take n work′ ≡ s
-  unfolding outputAfter
-  begins-with l w e = (λ i. take (e i) (w i)) ∙ rw (le-leb (length s) (length work) l) (take-append-seam s (drop (length s) work))
+-- what removing into the work buffer says: the room, and what the buffer begins with then
+module _ {s work work′ : List ℕ} {r : Stuffed} (L : Lends s work r work′) where
+  removed-done : {n : ℕ} → r ≡ Said.the-variants.Done n → (n ≡ length s) × (length s ≤ length work)
+  unfolding lent
+  removed-done {n} e = go (leb (length s) (length work)) refl (sym (ap stuffedAnswer e) ∙ L .answered)
+    where
+      go : (t : Bool) → leb (length s) (length work) ≡ t → success n ≡ cond t (success (length s)) (refusal output-too-short) → (n ≡ length s) × (length s ≤ length work)
+      go true h a = (cc, leb-true (length s) (length work) h)
+      go false h a = absurd (let z : _≡_ {A = ℕ} 0 1 = cc in omega arith)
 
-  pub begins-long : {n : ℕ} {work′ : List ℕ} → length s ≤ length work → work′ ≡ outputAfter s work → n ≡ length s → n ≤ length work′
-  unfolding outputAfter
-  begins-long {work′ = work′} l w e =
-      let f : work′ ≡ s ++ drop (length s) work = w ∙ rw (le-leb (length s) (length work) l) refl in
-      omega (arith, e, ap length f, length-append s (drop (length s) work))
+  pub removed-refused : {k : ℕ} → r ≡ Said.the-variants.Refused k → (length work < length s) × (work′ ≡ work)
+  unfolding lent outputAfter
+  removed-refused {k} e = go (leb (length s) (length work)) refl (sym (ap stuffedAnswer e) ∙ L .answered) (L .left)
+    where
+      go : (t : Bool) → leb (length s) (length work) ≡ t → refusal k ≡ cond t (success (length s)) (refusal output-too-short) → work′ ≡ cond t (s ++ drop (length s) work) work
+          → (length work < length s) × (work′ ≡ work)
+      go true h a w = absurd (let z : _≡_ {A = ℕ} 0 1 = cc in omega arith)
+      go false h a w = (leb-false (length s) (length work) h, w)
+
+  module _ {n : ℕ} (e : r ≡ Said.the-variants.Done n) where
+    pub removed-room : length s ≤ length work
+    removed-room = removed-done e .1
+
+    begins : work′ ≡ s ++ drop (length s) work
+    unfolding outputAfter
+    begins = L .left ∙ rw (le-leb (length s) (length work) removed-room) refl
+
+    pub removed-begins : take n work′ ≡ s
+    removed-begins = (λ i. take (removed-done e .0 i) (begins i)) ∙ take-append-seam s (drop (length s) work)
+
+    pub removed-long : n ≤ length work′
+    removed-long = omega (arith, removed-done e .0, ap length begins, length-append s (drop (length s) work))
+
+    pub removed-size : n ≡ length (take n work′)
+    removed-size = removed-done e .0 ∙ sym (ap length removed-begins)

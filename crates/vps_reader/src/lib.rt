@@ -2,6 +2,7 @@
 ghost use mathlib.Core.Path.{_≡_};
 ghost use mathlib.Core.List.{List, [], _∷_};
 ghost use Prim.Native.Nat.{ℕ, _+_, _^_, _≤_, _<_};
+ghost use lib.Dec.{ltb};
 ghost use lib.ListN.{length, getD, set};
 ghost use lib.Seq.{sets};
 ghost use Rattle.stuffing.specs.Stuffing.{unstuff};
@@ -22,6 +23,7 @@ use refusals::NOT_A_VPS;
 use refusals::RBSP_TOO_LONG;
 use refusals::UNIT_TOO_SHORT;
 use refusals::WORK_TOO_SHORT;
+use stuffing::Stuffed;
 
 // What reading says. Any refusal leaves the record as it was.
 pub enum Parsed {
@@ -200,19 +202,27 @@ pub fn parse_rbsp(bytes: &[u8], record: &mut [u32]) -> Parsed
     parse_by_way_of(bytes, &mut small, record)
 }
 
+// Whether a payload's RBSP is too long: removing never lengthens, so a payload within the limit need not be measured.
+fn is_too_long(payload: &[u8]) -> bool
+    ensures { λ r. ⌜ r ≡ ltb most-rbsp-bytes (length (unstuff (now (payload .entry)))) ⌝ }
+{
+    if payload.len() <= Parsed::MOST_RBSP_BYTES {
+        return false;
+    }
+    Parsed::MOST_RBSP_BYTES < stuffing::rbsp_length(payload)
+}
+
 // A payload, into a lent record, by way of the work buffer.
 fn parse_payload(payload: &[u8], work: &mut [u8], record: &mut [u32]) -> Parsed
     ensures { λ r. ⌜ Gives (parsePayload (unstuff (now (payload .entry))) (now (work .entry)) (now («record» .entry))) r (now (work .exit)) (now («record» .exit)) ⌝ }
 {
-    let n = stuffing::rbsp_length(payload);
-    if Parsed::MOST_RBSP_BYTES < n {
+    if is_too_long(payload) {
         return Parsed::Refused(RBSP_TOO_LONG);
     }
-    if work.len() < n {
-        return Parsed::Refused(WORK_TOO_SHORT);
+    match stuffing::ebsp_to_rbsp(payload, work) {
+        Stuffed::Done(n) => parse_rbsp(&work[..n], record),
+        Stuffed::Refused(_) => Parsed::Refused(WORK_TOO_SHORT),
     }
-    stuffing::ebsp_to_rbsp(payload, work);
-    parse_rbsp(&work[..n], record)
 }
 
 // A unit, into a lent record. The RBSP goes into the work buffer, which the first four refusals leave as it was.

@@ -1,17 +1,18 @@
 -- `remove` meets its contract: in each turn, what is stored with what removing leaves of the rest is the whole.
 use Prim.Native.Nat.{_-_}
-use mathlib.Core.Path.{sym, _∙_}
+use mathlib.Core.Path.{refl, sym, _∙_}
 use lib.ListN.{length}
+use Rattle.stuffing.specs.Machine.{zerosIn}
+use Rattle.stuffing.proofs.Steps.{Removing, removing-start, removing-drop, removing-keep, removing-room, removing-done}
 use borrow.Author.Needs.{needs}
-use Rattle.stuffing.proofs.Steps.{Removing, removing-start, removing-drop, removing-keep, removing-done}
 use Rattle.stuffing.proofs.remove.Statement.{statement}
 use Rattle.stuffing.proofs.remove.Tie as tie
 
 abbrev Inv-loop : tie.InvT-loop
-Inv-loop ebsp out₀ i₀ n₀ zeros₀ out i n zeros = Removing ebsp out₀ out i n zeros
+Inv-loop ebsp out₀ i₀ n₀ before₀ last₀ out i n before last = Removing ebsp out₀ out i n (zerosIn before last)
 
 abbrev μ-loop : tie.MeasureT-loop
-μ-loop ebsp out₀ i₀ n₀ zeros₀ out i n zeros = length ebsp - i
+μ-loop ebsp out₀ i₀ n₀ before₀ last₀ out i n before last = length ebsp - i
 
 loop-holds : tie.Need-loop-holds Inv-loop μ-loop
 loop-holds c = removing-start _ _
@@ -29,25 +30,19 @@ loop-less : tie.Need-loop-less Inv-loop μ-loop
 loop-less c = search needs
 
 loop-again : tie.Need-loop-again Inv-loop μ-loop
-loop-again c = removing-drop (c .before .before .before .before .loop .inv) (c .before .before .before .loop-test .taken) (sym (c .before .is-dropped .ensures) ∙ c .if1 .taken)
+loop-again c = removing-drop (c .before .before .before .before .loop .before) (c .before .before .before .before .loop .last) (c .before .before .before .before .loop .inv) (c .before .before .before .loop-test .taken) (sym (c .before .is-dropped .ensures) ∙ c .if1 .taken)
 
-store-requires : tie.Need-store-requires Inv-loop μ-loop
-store-requires c κs = search needs
+slice-write-out : tie.Need-slice-write-out Inv-loop μ-loop
+slice-write-out c = removing-room (c .before .before .before .before .loop .before) (c .before .before .before .before .loop .last) (c .before .before .before .before .loop .inv) (c .before .before .before .loop-test .taken) (sym (c .before .is-dropped .ensures) ∙ c .if1 .left) (c .before .before .before .before .before .before .before .pre)
 
 add-n : tie.Need-add-n Inv-loop μ-loop
 add-n c = search needs
-
-zeros-behind-requires : tie.Need-zeros-behind-requires Inv-loop μ-loop
-zeros-behind-requires c κs = search needs
 
 loop-less-2 : tie.Need-loop-less-2 Inv-loop μ-loop
 loop-less-2 c = search needs
 
 loop-again-2 : tie.Need-loop-again-2 Inv-loop μ-loop
-loop-again-2 c =
-    let turn = c .before .before .before .before .before in
-    removing-keep (turn .before .before .before .before .loop .inv) (turn .before .before .before .loop-test .taken) (sym (turn .before .is-dropped .ensures) ∙ turn .if1 .left)
-    (c .before .before .before .store .ensures) (c .zeros-behind .ensures)
+loop-again-2 c = removing-keep (c .before .before .before .before .loop .before) (c .before .before .before .before .loop .last) (c .before .before .before .before .loop .inv) (c .before .before .before .loop-test .taken) (sym (c .before .is-dropped .ensures) ∙ c .if1 .left) refl
 
 same-length : tie.Need-same-length Inv-loop μ-loop
 same-length c = search needs
@@ -67,9 +62,8 @@ remove-spec =
     is-dropped-requires
     loop-less
     loop-again
-    store-requires
+    slice-write-out
     add-n
-    zeros-behind-requires
     loop-less-2
     loop-again-2
     same-length
