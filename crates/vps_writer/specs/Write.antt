@@ -4,11 +4,12 @@ use mathlib.Core.Path.{_≡_, refl, sym, ap, _∙_, subst}
 use mathlib.Core.List.{List, [], _∷_, _++_}
 use mathlib.Core.Bool.{Bool, true, false, not}
 use native.Mathlib.Nat.{zero-add}
+use native.Mathlib.Numerals.{add-one}
 use native.Mathlib.Omega.{arith}
 use borrow.Author.Tests.{le-leb, lt-leb}
 use lib.Dec.{leb, lit<}
-use lib.ListN.{length, getD, set, drop}
-use lib.Seq.{sets, sets-eq}
+use lib.ListN.{length, getD, set, take, drop, length-set, drop-of-length-le}
+use lib.Seq.{sets, sets-eq, length-sets, length-take-le, take-at, drop-cons, getD-take}
 use Rattle.refusals.specs.Answer.{Answer}
 use Rattle.refusals.specs.Answer.Answer.{success, refusal}
 use Rattle.refusals.specs.Number.{not-well-formed, output-too-short}
@@ -113,7 +114,8 @@ module _ (r out : List ℕ) where
   unfolding writeOf outputOf
   writes-refused e = writes-as e refl refl
 
-  module _ {n : ℕ} {lent₁ out₁ : List ℕ} (S : Stored (writeRecord r) 2 lent₁ n out₁) where
+  -- the first pass made a unit in another buffer
+  module _ (small : List ℕ) {n : ℕ} {out₁ : List ℕ} (S : Stored (writeRecord r) 2 (set (set small 0 0) 1 113) n out₁) where
     long : n ≡ length (unitOf (S .rbsp))
     unfolding unitOf
     long = S .long ∙ omega arith
@@ -129,14 +131,55 @@ module _ (r out : List ℕ) where
     again F false h = F .good h
     again F true h = let q : success (unitOf (S .rbsp)) ≡ refusal not-well-formed = sym (S .is) ∙ F .refused h in absurd (let n : _≡_ {A = ℕ} 0 1 = cc q in omega arith)
 
-    pub writes-done : {out₂ out₃ out₄ : List ℕ} {e : Ended} → n ≤ length out → out₂ ≡ set out 0 0 → out₃ ≡ set out₂ 1 113 → Finishes (writeRecord r) 2 out₃ e out₄ → Writes r out (Code.the-variants.Done n) out₄
-    unfolding writeOf outputOf lent outputAfter unitOf
-    writes-done {out₂} {out₃} {out₄} {e} l e₂ e₃ F =
-        let U = again F (e .bad) refl in
+    -- the unit's bytes at the output's beginning are what is asked for
+    unit-stored : {out₂ : List ℕ} → n ≤ length out → out₂ ≡ sets out 0 (unitOf (S .rbsp)) → Writes r out (Code.the-variants.Done n) out₂
+    unfolding writeOf outputOf lent outputAfter
+    unit-stored l e =
         let u : List ℕ = unitOf (S .rbsp) in
         let k : length u ≤ length out = omega (arith, l, long) in
         let b : leb (length u) (length out) ≡ true = le-leb (length u) (length out) k in
-        let same : stuff (U .rbsp) ≡ stuff (S .rbsp) = cc (sym (U .is) ∙ S .is) in
         let whole : sets out 0 u ≡ u ++ drop (length u) out = sets-eq u out 0 (omega (arith, k)) ∙ ap (λ (i : ℕ). u ++ drop i out) (zero-add (length u)) in
-        writes-as (S .is) (rw b (ap success long))
-        (rw b (U .stored ∙ (λ i. sets (e₃ i) 2 (same i)) ∙ ap (λ (x : List ℕ). sets (set x 1 113) 2 (stuff (S .rbsp))) e₂ ∙ whole))
+        writes-as (S .is) (rw b (ap success long)) (rw b (e ∙ whole))
+
+    -- the second pass puts them there
+    pub writes-again : {out₂ : List ℕ} {e : Ended} → n ≤ length out → Finishes (writeRecord r) 2 (set (set out 0 0) 1 113) e out₂ → Writes r out (Code.the-variants.Done n) out₂
+    unfolding unitOf
+    writes-again {e = e} l F =
+        let U = again F (e .bad) refl in
+        let same : stuff (U .rbsp) ≡ stuff (S .rbsp) = cc (sym (U .is) ∙ S .is) in
+        unit-stored l (U .stored ∙ ap (sets (set (set out 0 0) 1 113) 2) same)
+
+    -- or they are copied from where the first pass put them
+    pub writes-copied : {out₂ : List ℕ} → n ≤ length out₁ → n ≤ length out → out₂ ≡ sets out 0 (take n out₁) → Writes r out (Code.the-variants.Done n) out₂
+    unfolding unitOf
+    writes-copied k l f =
+        let u : List ℕ = unitOf (S .rbsp) in
+        let w : out₁ ≡ sets small 0 u = S .stored in
+        let h : length u ≤ length small = omega (arith, k, long, ap length w, length-sets small 0 u) in
+        let t : take n out₁ ≡ u = ap (take n) (w ∙ sets-eq u small 0 (omega (arith, h))) ∙ take-at u (drop (0 + length u) small) n (sym long) in
+        unit-stored l (f ∙ ap (sets out 0) t)
+
+-- ── Copying ───────────────────────────────────────────────────────────
+-- i bytes of t are stored, and with the rest all are
+pub record Copied (t o₀ o : List ℕ) (i : ℕ) : Type 0 where
+  pub same : length o ≡ length o₀
+  pub inside : i ≤ length t
+  pub whole : sets o i (drop i t) ≡ sets o₀ 0 t
+
+pub copied-none : (t o : List ℕ) → Copied t o o 0
+copied-none t o = record { same = refl; inside = omega arith; whole = refl }
+
+module _ (from : List ℕ) {n i : ℕ} {o₀ o : List ℕ} (C : Copied (take n from) o₀ o i) (few : n ≤ length from) where
+  pub copied-more : i < n → Copied (take n from) o₀ (set o i (getD from i 0)) (i + 1)
+  copied-more h =
+      let t : List ℕ = take n from in
+      let l : i < length t = omega (arith, length-take-le n from few) in
+      let s : drop i t ≡ getD from i 0 ∷ drop (i + 1) t = drop-cons t i 0 l ∙ (λ j. getD-take n from i 0 h j ∷ drop (sym (add-one i) j) t) in
+      record {
+        same = length-set o i (getD from i 0) ∙ C .same;
+        inside = omega arith;
+        whole = ap (λ (k : ℕ). sets (set o i (getD from i 0)) k (drop (i + 1) t)) (add-one i) ∙ ap (sets o i) (sym s) ∙ C .whole;
+      }
+
+  pub copied-all : n ≤ i → o ≡ sets o₀ 0 (take n from)
+  copied-all h = let l : length (take n from) ≤ i = omega (arith, length-take-le n from few) in ap (sets o i) (sym (drop-of-length-le (take n from) l)) ∙ C .whole

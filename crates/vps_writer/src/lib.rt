@@ -1,5 +1,8 @@
-// Writes a record as a VPS unit into a lent output: a first pass measures, a second fills, by the same code.
+// Writes a record as a VPS unit into a lent output: a first pass measures and makes a small unit, a second fills the output with a longer one, by the same code.
+ghost use Prim.Native.Nat.{_≤_};
 ghost use mathlib.Core.Path.{_≡_};
+ghost use lib.ListN.{length, set, take};
+ghost use lib.Seq.{sets};
 ghost use Rattle.vps_definition.specs.Writing.{writeRecord, wellFormed};
 ghost use Rattle.write_end.specs.Ends.{Finishes};
 ghost use Rattle.vps_writer.specs.Write.{Measured, Writes};
@@ -71,19 +74,50 @@ pub fn is_well_formed(record: &[u32]) -> bool
     !found.bad
 }
 
-// A record, written as a unit into a lent output.
-pub fn write_vps_nal(record: &[u32], output: &mut [u8]) -> Written
+// A record's unit: the header, and the RBSP behind it.
+fn put_unit(rec: &[u32], out: &mut [u8]) -> Ended
+    ensures { λ r. ⌜ Finishes (writeRecord (now (rec .entry))) 2 (set (set (now (out .entry)) 0 0) 1 113) r (now (out .exit)) ⌝ }
+{
+    stuffing::store(out, 0, 0);
+    stuffing::store(out, 1, 113);
+    put_rbsp(rec, out)
+}
+
+// Copies so many bytes.
+fn copy(from: &[u8], out: &mut [u8], n: usize)
+    requires { ⌜ (n ≤ length (now from)) × (n ≤ length (now out)) ⌝ }
+    ensures { λ _. ⌜ now (out .exit) ≡ sets (now (out .entry)) 0 (take n (now (from .entry))) ⌝ }
+{
+    let mut i = 0;
+    while i < n {
+        out[i] = from[i];
+        i += 1;
+    }
+}
+
+// A record, written as a unit into a lent output. The first pass goes to another buffer, and a unit that has room there is copied.
+fn write_by_way_of(record: &[u32], small: &mut [u8], output: &mut [u8]) -> Written
     ensures { λ r. ⌜ Writes (now («record» .entry)) (now (output .entry)) r (now (output .exit)) ⌝ }
 {
-    let found = measure(record);
+    let found = put_unit(record, small);
     if found.bad {
         return Written::Refused(NOT_WELL_FORMED);
     }
     if output.len() < found.len {
         return Written::Refused(OUTPUT_TOO_SHORT);
     }
-    stuffing::store(output, 0, 0);
-    stuffing::store(output, 1, 113);
-    put_rbsp(record, output);
+    if found.len <= small.len() {
+        copy(small, output, found.len);
+        return Written::Done(found.len);
+    }
+    put_unit(record, output);
     Written::Done(found.len)
+}
+
+// A record, written as a unit into a lent output.
+pub fn write_vps_nal(record: &[u32], output: &mut [u8]) -> Written
+    ensures { λ r. ⌜ Writes (now («record» .entry)) (now (output .entry)) r (now (output .exit)) ⌝ }
+{
+    let mut small = [0u8; 512];
+    write_by_way_of(record, &mut small, output)
 }
