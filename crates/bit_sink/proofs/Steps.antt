@@ -155,7 +155,11 @@ field-longer b w v = omega (arith, length-append b (bitsOf (fieldWidth w) v), bi
   most true e = omega (arith, ltb-true w 32 e)
   most false e = omega arith
 
--- a code is two fields: zeros, and the number and one
+-- a code of a short prefix is one field
+pub code-field : (b : List ℕ) (v : ℕ) → v < 4294967295 → prefixLength v < 16 → b ++ bitsOf (fieldWidth (2 * prefixLength v + 1)) (v + 1) ≡ b ++ codeOf v
+code-field b v h few = rw (width-kept (2 * prefixLength v + 1) (omega arith), code-is-field v h) refl
+
+-- any is two fields: zeros, and the number and one
 pub code-fields : (b : List ℕ) (v : ℕ) → v < 4294967295
     → (b ++ bitsOf (fieldWidth (prefixLength v)) 0) ++ bitsOf (fieldWidth (prefixLength v + 1)) (v + 1) ≡ b ++ codeOf v
 code-fields b v h =

@@ -148,7 +148,7 @@ pub fn put(out: &mut [u8], s: Sink, value: u32, width: u32) -> Sink
     push(out, s, value, width)
 }
 
-// A code, of a value up to 4,294,967,294: the zeros of its prefix, and then the code number.
+// A code, of a value up to 4,294,967,294: the code number as one field of up to 31 bits, or the zeros of its prefix and then the code number.
 pub fn put_code(out: &mut [u8], s: Sink, value: u32) -> Sink
     ensures { λ r. ⌜ ((start : ℕ) (b lent : List ℕ) → Holds start b s lent (now (out .entry)) → start < limit → length b < limit → value < 4294967295 → Holds start (b ++ codeOf value) r lent (now (out .exit))) ⌝ }
 {
@@ -157,6 +157,9 @@ pub fn put_code(out: &mut [u8], s: Sink, value: u32) -> Sink
     }
     let code_num = value + 1;
     let zeros = 31 - u32::leading_zeros(code_num);
+    if zeros < 16 {
+        return push(out, s, code_num, 2 * zeros + 1);
+    }
     let t = push(out, s, 0, zeros);
     push(out, t, code_num, zeros + 1)
 }
