@@ -42,6 +42,9 @@ pub fn is_guarded(zeros: u32, b: u8) -> bool
     if zeros >= 2 { b <= 3 } else { false }
 }
 
+// The loops know the zeros behind them by two numbers, the byte last taken and the one before it. Where a 03 was dropped or
+// added it counts as one of them, and any number but 0 stands for a byte that is none.
+
 // Whether a byte behind two others is a 03 to be dropped.
 fn is_dropped(before: u8, last: u8, b: u8) -> bool
     ensures { λ r. ⌜ r ≡ dropped (zerosIn before last) b ⌝ }
