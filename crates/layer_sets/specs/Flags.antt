@@ -39,6 +39,13 @@ flagged-more [] v (suc k) = ap (λ (b : Bool). eqb v 1 && b) (eqb·zero-suc k) �
 flagged-more (x ∷ flags) v zero = ap (λ (b : Bool). eqb x 1 || (eqb v 1 && b)) (eqb·suc-zero (length flags)) ∙ ap (λ (b : Bool). eqb x 1 || b) (and-false (eqb v 1)) ∙ or-false (eqb x 1)
 flagged-more (x ∷ flags) v (suc k) = ap (λ (b : Bool). flagged flags k || (eqb v 1 && b)) (eqb·suc-suc (length flags) k) ∙ flagged-more flags v k
 
+-- the mask of flags with one more
+pub bits-turn : (flags : List ℕ) (mask v : ℕ) → mask ≡ maskOf 64 (flagged flags) → withFlag mask v (length flags) ≡ maskOf 64 (flagged (flags ++ (v ∷ [])))
+bits-turn flags mask v e =
+    mask-ext 64 _ _ (λ k l.
+    ap (λ (b : Bool). b || (eqb v 1 && eqb (length flags) k)) (ap (λ (x : ℕ). bitOf x k) e ∙ mask-bit 64 _ k l)
+    ∙ flagged-more flags v k)
+
 sum-more : (flags : List ℕ) (v : ℕ) → sum (flags ++ (v ∷ [])) ≡ sum flags + v
 unfolding sum
 sum-more [] v = omega arith
@@ -46,10 +53,7 @@ sum-more (x ∷ flags) v = omega (arith, sum-more flags v)
 
 module _ (flags : List ℕ) (mask : ℕ) (H : Held flags mask) (room : length flags < 64) where
   bits-more : (v : ℕ) → withFlag mask v (length flags) ≡ maskOf 64 (flagged (flags ++ (v ∷ [])))
-  bits-more v =
-      mask-ext 64 _ _ (λ k l.
-      ap (λ (b : Bool). b || (eqb v 1 && eqb (length flags) k)) (ap (λ (x : ℕ). bitOf x k) (H .bits) ∙ mask-bit 64 _ k l)
-      ∙ flagged-more flags v k)
+  bits-more v = bits-turn flags mask v (H .bits)
 
   some-one : (withFlag mask 1 (length flags) ≡ 0 → ⊥)
   some-one e = false≢true (sym (bit-empty (length flags)) ∙ ap (λ (x : ℕ). bitOf x (length flags)) (sym e) ∙ mask-bit 64 _ (length flags) room ∙ all)

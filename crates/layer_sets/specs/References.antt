@@ -52,10 +52,10 @@ module _ (refs : List (List ℕ)) (flags : List ℕ) where
   refers-new l = ap (λ (x : List ℕ). flagged x l) (sym (getD-append-seam refs flags [] []))
 
 -- the mask that `close` stores for layer i, whose flags are those of a mask
-pub referred-more : {i mask : ℕ} {refs : List (List ℕ)} {closed closed′ flags : List ℕ} → i < 64 → i < length closed
+pub referred-with : {i mask : ℕ} {refs : List (List ℕ)} {closed closed′ : List ℕ} (flags : List ℕ) → i < 64 → i < length closed
     → closed′ ≡ set closed i (maskOf 64 (withReached i (bitAt closed) (bitOf mask)))
-    → Held flags mask → length flags ≤ i → Referred refs closed i → Referred (refs ++ (flags ∷ [])) closed′ (i + 1)
-referred-more {i} {mask} {refs} {closed} {closed′} {flags} u v e H l R =
+    → mask ≡ maskOf 64 (flagged flags) → length flags ≤ i → Referred refs closed i → Referred (refs ++ (flags ∷ [])) closed′ (i + 1)
+referred-with {i} {mask} {refs} {closed} {closed′} flags u v e H l R =
     record {
       count = length-append refs (flags ∷ []) ∙ omega (arith, R .count);
       below = below-more refs flags (R .below) (omega (arith, R .count));
@@ -63,8 +63,13 @@ referred-more {i} {mask} {refs} {closed} {closed′} {flags} u v e H l R =
           subst (λ (m : List ℕ). Closed (refersBy refs′) m (i + 1)) (sym e)
           (closed-more (refersBy refs′) closed i mask v u
           (closed-as (refersBy refs) (refersBy refs′) closed i (λ k l. refers-same refs flags k (omega (arith, R .count))) (R .masks))
-          (λ j l. ap (λ (x : ℕ). bitOf x j) (H .bits) ∙ mask-bit 64 _ j l ∙ refers-new refs flags j ∙ ap (λ (k : ℕ). refersBy refs′ k j) (R .count)));
+          (λ j l. ap (λ (x : ℕ). bitOf x j) H ∙ mask-bit 64 _ j l ∙ refers-new refs flags j ∙ ap (λ (k : ℕ). refersBy refs′ k j) (R .count)));
     }
   where
     refs′ : List (List ℕ)
     refs′ = refs ++ (flags ∷ [])
+
+pub referred-more : {i mask : ℕ} {refs : List (List ℕ)} {closed closed′ flags : List ℕ} → i < 64 → i < length closed
+    → closed′ ≡ set closed i (maskOf 64 (withReached i (bitAt closed) (bitOf mask)))
+    → Held flags mask → length flags ≤ i → Referred refs closed i → Referred (refs ++ (flags ∷ [])) closed′ (i + 1)
+referred-more u v e H l R = referred-with _ u v e (H .bits) l R

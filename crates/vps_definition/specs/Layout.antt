@@ -4,6 +4,8 @@ use mathlib.Core.List.{List, [], _∷_}
 use mathlib.Core.Bool.{cond}
 use lib.Dec.{eqb}
 use lib.ListN.{getD, take, drop}
+use Rattle.vps_definition.specs.OutputLayerSets.{Sets}
+use Rattle.vps_definition.specs.OutputLayerSets.Sets.{each-layer, up-to, chosen}
 use Rattle.vps_definition.specs.DpbParameters.{sublayers}
 use Rattle.vps_definition.specs.Record.{startOf}
 
@@ -24,7 +26,30 @@ idsFrom (suc n) i x = getD x 0 0 ∷ idsFrom n (i + 1) (drop (entryLength i x) x
 unfoldable pub layerIds : List ℕ → List ℕ
 layerIds r = idsFrom (getD r 0 0) 0 (fromSection r 1)
 
+-- the first of each of n pairs
+unfoldable pub firsts : ℕ → List ℕ → List ℕ
+firsts zero x = []
+firsts (suc n) x = getD x 0 0 ∷ firsts n (drop 2 x)
+
+-- layer i's direct reference flags; an independent layer has none
+unfoldable pub flagsIn : ℕ → List ℕ → List ℕ
+flagsIn i x = cond (eqb (getD x 1 0) 0) (firsts i (drop 3 x)) []
+
+-- those of n layers from layer i on
+unfoldable pub flagsFrom : ℕ → ℕ → List ℕ → List (List ℕ)
+flagsFrom zero i x = []
+flagsFrom (suc n) i x = flagsIn i x ∷ flagsFrom n (i + 1) (drop (entryLength i x) x)
+
 -- ── Sets ──────────────────────────────────────────────────────────────
+-- rows of n flags
+unfoldable pub rowsFrom : ℕ → ℕ → List ℕ → List (List ℕ)
+rowsFrom n zero x = []
+rowsFrom n (suc k) x = take n x ∷ rowsFrom n k (drop n x)
+
+-- how the sets of n layers are given, by the each-layer flag, the mode and the Rows section
+unfoldable pub setsIn : (n each-layer-flag mode : ℕ) → List ℕ → Sets
+setsIn n each-layer-flag mode x = cond (eqb each-layer-flag 0) (cond (eqb mode 2) (chosen (rowsFrom n (getD x 0 0) (drop 1 x))) up-to) each-layer
+
 unfoldable pub ptlCount : List ℕ → ℕ
 ptlCount r = getD (fromSection r 3) 0 0
 

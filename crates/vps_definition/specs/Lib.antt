@@ -12,3 +12,5 @@ pub mod Lookup
 pub mod Open
 pub mod Cases
 pub mod Layout
+pub mod Views
+pub mod ViewCases

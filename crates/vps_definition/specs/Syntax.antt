@@ -169,3 +169,19 @@ skim (test true m n) r x = skim m r x
 skim (test false m n) r x = skim n r x
 skim (refuse n) r x = x
 skim (done a) r x = x
+
+-- the result of a table over the record's rest, unchecked; d where the rest is too short or the table refuses
+unfoldable pub look : {A : Type 0} → A → Syntax A → List ℕ → List ℕ → A
+look d (field w plus k) r [] = d
+look d (field w plus k) r (v ∷ x) = look d (k v) r x
+look d (code plus k) r [] = d
+look d (code plus k) r (v ∷ x) = look d (k v) r x
+look d (late w find k) r x = look d (k (find r x)) r x
+look d (keep u m) r [] = d
+look d (keep u m) r (v ∷ x) = look d m r x
+look d (mark m) r x = look d m r x
+look d (align n m) r x = look d m r x
+look d (test true m n) r x = look d m r x
+look d (test false m n) r x = look d n r x
+look d (refuse n) r x = d
+look d (done a) r x = a

@@ -9,14 +9,14 @@ use lib.Dec.{eqb}
 use lib.ListN.{getD, drop}
 use Rattle.bits.specs.Bits.{fieldAt, toBoundary}
 use Rattle.bits.specs.Code.{codeAt}
-use Rattle.vps_definition.specs.Syntax.{Syntax, _>>=_, Token, numbers, keeping, run, skim}
+use Rattle.vps_definition.specs.Syntax.{Syntax, _>>=_, Token, numbers, keeping, run, skim, look}
 use Rattle.vps_definition.specs.Syntax.Syntax.{field, code, late, keep, mark, align, test, refuse, done}
 use Rattle.vps_definition.specs.Syntax.Token.{number, section}
 use Rattle.vps_definition.specs.Syntax.Outcome.{accepted}
 use Rattle.vps_definition.specs.Words.{u, u-minus1, ue, ue-minus1, inferred, u-if, ue-if, general, general-if, check, nothing, when, aligned, keeps, loop, repeat}
 use Rattle.vps_laws.specs.Inversion.{keeping-accepted, guard-accepted, code-accepted}
 use Rattle.vps_laws.specs.Bind.{run-bound}
-use Rattle.vps_laws.specs.RoundTrip.{Coherent, coherent-bind, skim-run}
+use Rattle.vps_laws.specs.RoundTrip.{Coherent, coherent-bind, skim-run, look-run}
 use Rattle.vps_laws.specs.Keeps.{Keeps, Returns, Silent, numbers-append, keeps-any, keeps-so, keeps-bind, keeps-late, keeps-test, keeps-done, keeps-check, keeps-keeps}
 
 -- coherent, if the record stands to the result as P says
@@ -195,6 +195,11 @@ pub ruleset words = (
 -- behind a table that is coherent by itself `skim` finds the record's rest
 pub local-skim : {A : Type 0} {m : Syntax A} → Local m → Keeps (λ a t. (r y : List ℕ) → skim m r (numbers t ++ y) ≡ y) m
 local-skim {m} M = record { holds = λ s at e r y. skim-run m s at r y e (M .coh s at r y e tt) }
+
+-- and `look` finds what the table ended in, of a record that stands to it as it needs
+pub coh-look : {A : Type 0} {P : List ℕ → A → Type 0} {m : Syntax A} {a : A} {t : List Token} {next : ℕ} → Coh P m → (s : List ℕ) (at : ℕ) → run m s at ≡ accepted a t next
+    → (d : A) (r y : List ℕ) → P r a → look d m r (numbers t ++ y) ≡ a
+coh-look {m} M s at e d r y h = look-run d m s at r y e (M .coh s at r y e h)
 
 -- ── Late fields of the General section ────────────────────────────────
 -- looked for in the whole record

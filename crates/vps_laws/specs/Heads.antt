@@ -87,10 +87,10 @@ ahead-bind-so S Q {m} {f} R M N F = record {
 }
 
 -- the heads from the i-th on stand in their slots
-From : ℕ → List ℕ → List ℕ → List Head → Type 0
+pub From : ℕ → List ℕ → List ℕ → List Head → Type 0
 From i r x b = (j : ℕ) → i ≤ j → j < length b → Heading r x j (headAt b j)
 
-ahead-heads : (h : Header) (n i : ℕ) (hs : List Head) → length hs ≡ i → Ahead (From i) (loop (ptl-head h) n i hs)
+pub ahead-heads : (h : Header) (n i : ℕ) (hs : List Head) → length hs ≡ i → Ahead (From i) (loop (ptl-head h) n i hs)
 unfolding loop From Behind
 ahead-heads h zero i hs e = ahead-done
 ahead-heads h (suc n) i hs e =
@@ -110,7 +110,7 @@ anything : {A : Type 0} {m : Syntax A} → Keeps (λ a t. Unit {0}) m
 anything = record { holds = λ s at e. tt }
 
 -- a slot begins with its head
-slot-begins : (p q : ℕ) → Keeps (λ a t. (u : List Token) × (t ≡ number p ∷ number q ∷ u)) (profile-tier-level p q)
+pub slot-begins : (p q : ℕ) → Keeps (λ a t. (u : List Token) × (t ≡ number p ∷ number q ∷ u)) (profile-tier-level p q)
 unfolding profile-tier-level
 slot-begins p q =
     keeps-bind (keeps-inferred p) (λ a x h. keeps-bind (keeps-inferred q) (λ b y k. keeps-so anything (λ c z l. front a b x y z (h .0) (h .1) (k .0) (k .1))))

@@ -24,45 +24,45 @@ use Rattle.vps_laws.specs.Keeps.{Keeps, Below, numbers-append, keeps-any
 pub record Long {A : Type 0} (n : ℕ) (m : Syntax A) : Type 0 where
   pub long : Keeps (λ a t. length (numbers t) ≡ n) m
 
-long-append : (t l : List Token) (a b : ℕ) → length (numbers t) ≡ a → length (numbers l) ≡ b → length (numbers (t ++ l)) ≡ a + b
+pub long-append : (t l : List Token) (a b : ℕ) → length (numbers t) ≡ a → length (numbers l) ≡ b → length (numbers (t ++ l)) ≡ a + b
 long-append t l a b e f = ap length (numbers-append t l) ∙ length-append (numbers t) (numbers l) ∙ omega arith
 
-long-bind : {A B : Type 0} {a b : ℕ} {m : Syntax A} {f : A → Syntax B} → Long a m → ((x : A) → Long b (f x)) → Long (a + b) (m >>= f)
+pub long-bind : {A B : Type 0} {a b : ℕ} {m : Syntax A} {f : A → Syntax B} → Long a m → ((x : A) → Long b (f x)) → Long (a + b) (m >>= f)
 long-bind {a = a} {b = b} M F = record { long = keeps-bind (M .long) (λ x t e. keeps-so (F x .long) (λ y l g. long-append t l a b e g)) }
 
-long-one : {m : Syntax ℕ} → Keeps (λ a t. t ≡ number a ∷ []) m → Long 1 m
+pub long-one : {m : Syntax ℕ} → Keeps (λ a t. t ≡ number a ∷ []) m → Long 1 m
 unfolding numbers
 long-one M = record { long = keeps-so M (λ a t e. ap (λ (l : List Token). length (numbers l)) e) }
 
-long-none : {A : Type 0} {m : Syntax A} → Keeps (λ a t. t ≡ []) m → Long 0 m
+pub long-none : {A : Type 0} {m : Syntax A} → Keeps (λ a t. t ≡ []) m → Long 0 m
 unfolding numbers
 long-none M = record { long = keeps-so M (λ a t e. ap (λ (l : List Token). length (numbers l)) e) }
 
-long-done : {A : Type 0} {a : A} → Long 0 (done a)
+pub long-done : {A : Type 0} {a : A} → Long 0 (done a)
 long-done = long-none (keeps-done refl)
 
-long-u : (w : ℕ) → Long 1 (u w)
+pub long-u : (w : ℕ) → Long 1 (u w)
 long-u w = long-one (keeps-so (keeps-u w) (λ a t h. h .0))
 
-long-u-if : (b : Bool) (w v : ℕ) → Long 1 (u-if b w v)
+pub long-u-if : (b : Bool) (w v : ℕ) → Long 1 (u-if b w v)
 long-u-if b w v = long-one (keeps-so (keeps-u-if b w v) (λ a t h. h .0))
 
-long-ue-if : (b : Bool) (v : ℕ) → Long 1 (ue-if b v)
+pub long-ue-if : (b : Bool) (v : ℕ) → Long 1 (ue-if b v)
 long-ue-if b v = long-one (keeps-so (keeps-ue-if b v) (λ a t h. h .0))
 
-long-ue : Long 1 ue
+pub long-ue : Long 1 ue
 long-ue = long-one keeps-ue
 
-long-inferred : (v : ℕ) → Long 1 (inferred v)
+pub long-inferred : (v : ℕ) → Long 1 (inferred v)
 long-inferred v = long-one (keeps-so (keeps-inferred v) (λ a t h. h .0))
 
-long-check : (b : Bool) (n : ℕ) → Long 0 (check b n)
+pub long-check : (b : Bool) (n : ℕ) → Long 0 (check b n)
 long-check b n = long-none (keeps-so (keeps-check b n) (λ a t h. h .0))
 
-long-nothing : Long 0 nothing
+pub long-nothing : Long 0 nothing
 long-nothing = long-none (keeps-nothing refl)
 
-long-loop : {A : Type 0} {f : ℕ → A → Syntax A} (k n i : ℕ) (x : A) → ((i : ℕ) (x : A) → Long k (f i x)) → Long (n * k) (loop f n i x)
+pub long-loop : {A : Type 0} {f : ℕ → A → Syntax A} (k n i : ℕ) (x : A) → ((i : ℕ) (x : A) → Long k (f i x)) → Long (n * k) (loop f n i x)
 unfolding loop
 long-loop k zero i x F = subst (λ (n : ℕ). Long n (done x)) (omega arith) long-done
 long-loop {f = f} k (suc n) i x F = subst (λ (m : ℕ). Long m (loop f (suc n) i x)) (add-comm k (n * k) ∙ sym (suc-mul n k)) (long-bind (F i x) (λ y. long-loop k n (i + 1) y F))
@@ -90,7 +90,7 @@ long-references top i =
     long-bind (long-loop 2 i 0 [] (λ j l. long-bind (long-u 1) λ d. long-bind (long-u-if _ 3 _) λ t. long-done)) λ l.
     long-bind (long-check _ _) λ c. long-done
 
-long-rest : (top i independent : ℕ) → Long (1 + cond (eqb independent 0) (2 * i) 0) (test (eqb independent 0) (dependent-layer top i) independent-layer)
+pub long-rest : (top i independent : ℕ) → Long (1 + cond (eqb independent 0) (2 * i) 0) (test (eqb independent 0) (dependent-layer top i) independent-layer)
 unfolding independent-layer
 long-rest top i independent = record {
   long = keeps-test (eqb independent 0)
@@ -259,7 +259,7 @@ keeps-dpb d top multi =
         }
 
 -- ── Timing ────────────────────────────────────────────────────────────
-long-general-timing-hrd : Long 11 general-timing-hrd
+pub long-general-timing-hrd : Long 11 general-timing-hrd
 unfolding general-timing-hrd
 long-general-timing-hrd =
     long-bind (long-u 32) λ a. long-bind (long-u 32) λ b. long-bind (long-u 1) λ c. long-bind (long-u 1) λ d. long-bind (long-check _ _) λ e. long-bind (long-u-if _ 1 0) λ f.

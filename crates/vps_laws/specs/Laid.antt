@@ -2,7 +2,7 @@
 use Prim.Native.Nat.{ℕ, zero, suc, _+_, _*_, _-_, _≤_, _<_}
 use mathlib.Core.Path.{_≡_, refl, sym, ap, _∙_, subst, subst⁻¹}
 use mathlib.Core.List.{List, [], _∷_, _++_, append-assoc, append-nil}
-use mathlib.Core.Bool.{Bool, true, false}
+use mathlib.Core.Bool.{Bool, true, false, cond}
 use native.Mathlib.Numerals.{add-one}
 use native.Mathlib.Omega.{arith}
 use borrow.Author.Tests.{eqb-true, eqb-false}
@@ -25,6 +25,7 @@ use Rattle.vps_laws.specs.Keeps.{Keeps, Below, numbers-append, keeps-so,
 use Rattle.vps_laws.specs.Sections.{Sections, sections}
 use Rattle.vps_laws.specs.Accepted.{closing, record-parts}
 use Rattle.vps_laws.specs.Marks.{marks, marks-append, start-of, from-section}
+use Rattle.vps_laws.specs.Places.{ReadAt, keeps-read}
 use Rattle.vps_laws.specs.Plain.{Plain, plain-layers-section, plain-rows-section, plain-no-rows, plain-ptl-section, plain-ols-section, plain-dpb-section, plain-timing-section}
 use Rattle.vps_laws.specs.Indices.{RisingFrom, layers-rise, Inside, keeps-ols, keeps-ptls, Buffers, keeps-dpb, Timing, keeps-timing}
 
@@ -54,18 +55,18 @@ keeps-sets h =
     joined t₁ t₂ t₃ t₄ u a b c d = simp (a, b, c, d, append-nil)
 
 -- the DPB and timing sections, a mark at the front of each
-pub record Buffered (flag : ℕ) (t : List Token) : Type 0 where
+pub record Buffered (h : Header) (multi flag : ℕ) (t : List Token) : Type 0 where
   pub dpb : List Token
   pub timing : List Token
   pub is : t ≡ section ∷ (dpb ++ (section ∷ timing))
   pub plain-dpb : marks dpb ≡ 0
   pub plain-timing : marks timing ≡ 0
-  pub multi : ℕ
   pub buffers : Buffers flag multi (numbers dpb)
   pub on : ℕ
   pub rest : List ℕ
   pub timed : numbers timing ≡ on ∷ rest
   pub inside : on ≡ 1 → Timing multi rest
+  pub read : on ≡ 1 → (z : List ℕ) → ReadAt (timing-section (h .default-max-tid-flag) (h .max-sublayers-minus1) multi) tt (rest ++ z) z
 
 record Dpb (multi flag : ℕ) (t : List Token) : Type 0 where
   inner : List Token
@@ -80,17 +81,18 @@ flag-marked : Keeps (λ a t. t ≡ section ∷ number a ∷ []) (mark (u 1))
 flag-marked = keeps-mark (keeps-so (keeps-u 1) (λ a t q. ap (λ (l : List Token). section ∷ l) (q .0)))
 
 -- what the timing section keeps where its flag is 1
-record Timed (multi on : ℕ) (t : List Token) : Type 0 where
+record Timed (d top multi on : ℕ) (t : List Token) : Type 0 where
   plain : marks t ≡ 0
   inside : on ≡ 1 → Timing multi (numbers t)
+  read : on ≡ 1 → (z : List ℕ) → ReadAt (timing-section d top multi) tt (numbers t ++ z) z
 
-keeps-timed : (d top multi on : ℕ) → Keeps (λ a t. Timed multi on t) (when on (timing-section d top multi))
+keeps-timed : (d top multi on : ℕ) → Keeps (λ a t. Timed d top multi on t) (when on (timing-section d top multi))
 unfolding when marks
 keeps-timed d top multi on = keeps-test (eqb on 0)
-    (λ e. keeps-nothing (record { plain = refl; inside = λ f. absurd (omega (arith, eqb-true on 0 e)) }))
-    (λ e. keeps-so (keeps-both (keeps-timing d top multi) (plain-timing-section d top multi .plain)) (λ a t q. record { plain = q .1; inside = λ f. q .0 }))
+    (λ e. keeps-nothing (record { plain = refl; inside = λ f. absurd (omega (arith, eqb-true on 0 e)); read = λ f z. absurd (omega (arith, eqb-true on 0 e)) }))
+    (λ e. keeps-so (keeps-both (keeps-timing d top multi) (keeps-both (plain-timing-section d top multi .plain) keeps-read)) (λ a t q. record { plain = q .1 .0; inside = λ f. q .0; read = λ f. q .1 .1 }))
 
-keeps-multi-layer : (h : Header) (multi : ℕ) → Keeps Buffered (multi-layer-sections h multi)
+keeps-multi-layer : (h : Header) (multi : ℕ) → Keeps (Buffered h multi) (multi-layer-sections h multi)
 unfolding multi-layer-sections
 keeps-multi-layer h multi =
     keeps-bind (dpb-marked _ _ multi) λ flag t₁ D.
@@ -98,43 +100,50 @@ keeps-multi-layer h multi =
     keeps-bind (keeps-timed _ _ multi on) λ o t₃ T.
     keeps-done (buffered flag on t₁ t₂ t₃ D e₂ T)
   where
-    buffered : (flag on : ℕ) (t₁ t₂ t₃ : List Token) → Dpb multi flag t₁ → t₂ ≡ section ∷ number on ∷ [] → Timed multi on t₃ → Buffered flag (t₁ ++ (t₂ ++ (t₃ ++ [])))
+    buffered : (flag on : ℕ) (t₁ t₂ t₃ : List Token) → Dpb multi flag t₁ → t₂ ≡ section ∷ number on ∷ [] → Timed (h .default-max-tid-flag) (h .max-sublayers-minus1) multi on t₃ → Buffered h multi flag (t₁ ++ (t₂ ++ (t₃ ++ [])))
     buffered flag on t₁ t₂ t₃ D e T = record {
       dpb = D .inner;
       timing = number on ∷ t₃;
       is = joined t₁ t₂ t₃ (D .inner) (D .is) e;
       plain-dpb = D .plain;
       plain-timing = unfold marks in T .plain;
-      multi = multi;
       buffers = D .buffers;
       on = on;
       rest = numbers t₃;
       timed = unfold numbers in refl;
       inside = T .inside;
+      read = T .read;
     }
       where
         joined : (t₁ t₂ t₃ d : List Token) → t₁ ≡ section ∷ d → t₂ ≡ section ∷ number on ∷ [] → t₁ ++ (t₂ ++ (t₃ ++ [])) ≡ section ∷ (d ++ (section ∷ number on ∷ t₃))
         joined t₁ t₂ t₃ d a b = simp (a, b, append-nil)
 
-keeps-single-layer : Keeps Buffered single-layer-sections
+keeps-single-layer : (h : Header) → Keeps (Buffered h 0) single-layer-sections
 unfolding single-layer-sections marks numbers behindSlots fifths
-keeps-single-layer = keeps-mark (keeps-keep (keeps-keep (keeps-mark (keeps-keep (keeps-done (record {
+keeps-single-layer h = keeps-mark (keeps-keep (keeps-keep (keeps-mark (keeps-keep (keeps-done (record {
   dpb = number 0 ∷ number 0 ∷ [];
   timing = number 0 ∷ [];
   is = refl;
   plain-dpb = refl;
   plain-timing = refl;
-  multi = 0;
   buffers = record { slots = 0; rest = 0 ∷ []; is = refl; entries = []; behind = λ z. refl; inside = λ z. tt };
   on = 0;
   rest = [];
   timed = refl;
   inside = λ e. absurd (omega arith);
+  read = λ e z. absurd (omega arith);
 }))))))
 
-keeps-buffered : (h : Header) (each multi : ℕ) → Keeps Buffered (buffer-sections h each multi)
+-- the entries of the DPB section: one for each multi-layer set, or none where each layer is a set
+abbrev pub dpbEntriesOf : (each multi : ℕ) → ℕ
+dpbEntriesOf each multi = cond (eqb each 0) multi 0
+
+keeps-buffered : (h : Header) (each multi : ℕ) → Keeps (Buffered h (dpbEntriesOf each multi)) (buffer-sections h each multi)
 unfolding buffer-sections
-keeps-buffered h each multi = keeps-test (eqb each 0) (λ e. keeps-multi-layer h multi) (λ e. keeps-single-layer)
+keeps-buffered h each multi = keeps-test (eqb each 0) (λ e. subst⁻¹ (λ (n : ℕ). Keeps (Buffered h n) (multi-layer-sections h multi)) (counted e) (keeps-multi-layer h multi)) (λ e. subst⁻¹ (λ (n : ℕ). Keeps (Buffered h n) single-layer-sections) (counted e) (keeps-single-layer h))
+  where
+    counted : {b : Bool} → eqb each 0 ≡ b → dpbEntriesOf each multi ≡ cond b multi 0
+    counted e = ap (λ (b : Bool). cond b multi 0) e
 
 -- ── All seven marks ───────────────────────────────────────────────────
 -- tokens in seven parts, a mark at the front of each and none within
@@ -165,6 +174,8 @@ last-mark t a k M = ap marks (M .here) ∙ marks-append a (section ∷ []) ∙ o
 -- the seven marks of a table's tokens
 pub record Marks₇ (t l r p o d m : List Token) : Type 0 where
   pub first : Mark t 0 [] (l ++ (section ∷ (r ++ (section ∷ (p ++ (section ∷ (o ++ (section ∷ (d ++ (section ∷ (m ++ (section ∷ []))))))))))))
+  pub before-r : List Token
+  pub second : Mark t 1 before-r (r ++ (section ∷ (p ++ (section ∷ (o ++ (section ∷ (d ++ (section ∷ (m ++ (section ∷ []))))))))))
   pub before-p : List Token
   pub third : Mark t 2 before-p (p ++ (section ∷ (o ++ (section ∷ (d ++ (section ∷ (m ++ (section ∷ []))))))))
   pub before-o : List Token
@@ -188,6 +199,8 @@ seven-marks {t} {l} {r} {p} {o} {d} {m} S =
     let M₇ = next-mark t _ m [] 5 M₆ (S .plain-m) in
     record {
       first = M₁;
+      before-r = _;
+      second = M₂;
       before-p = _;
       third = M₃;
       before-o = _;
@@ -229,17 +242,17 @@ ptls-sound r x z y w ptls total e f I =
     rw (e, f, q) I
 
 -- of a DPB section, under the record's sublayer-DPB flag
-record DpbSound (r : List ℕ) (multi slots : ℕ) : Type 0 where
-  count : dpbCount r ≡ slots
-  many : multiCount r ≡ multi
-  dpbs : Inside (dpbCount r) (multiCount r) (dpbIndices r)
+pub record DpbSound (r : List ℕ) (multi slots : ℕ) : Type 0 where
+  pub count : dpbCount r ≡ slots
+  pub many : multiCount r ≡ multi
+  pub dpbs : Inside (dpbCount r) (multiCount r) (dpbIndices r)
 
 fifths-many : (n : ℕ) (x : List ℕ) → length (fifths n x) ≡ n
 unfolding fifths
 fifths-many zero x = refl
 fifths-many (suc n) x = ap suc (fifths-many n (drop 5 x))
 
-dpb-sound : (r x z : List ℕ) (flag multi : ℕ) → fromSection r 5 ≡ x ++ z → getD r 7 0 ≡ flag → (B : Buffers flag multi x) → DpbSound r multi (B .slots)
+pub dpb-sound : (r x z : List ℕ) (flag multi : ℕ) → fromSection r 5 ≡ x ++ z → getD r 7 0 ≡ flag → (B : Buffers flag multi x) → DpbSound r multi (B .slots)
 unfolding dpbCount dpbEntries multiCount dpbIndices
 dpb-sound r x z flag multi e f B =
     let g : fromSection r 5 ≡ B .slots ∷ (B .rest ++ z) = e ∙ ap (λ (l : List ℕ). l ++ z) (B .is) in
@@ -267,22 +280,22 @@ timing-sound r pre x y z on multi e f T g s =
     rw (f, c) (rw (d, k) I)
 
 -- ── An accepted record ────────────────────────────────────────────────
-record-number : (g : List ℕ) (t : List Token) (e : List ℕ) (i : ℕ) → length g ≡ 9 → i < 9 → getD (recordOf g t e) i 0 ≡ getD g i 0
+pub record-number : (g : List ℕ) (t : List Token) (e : List ℕ) (i : ℕ) → length g ≡ 9 → i < 9 → getD (recordOf g t e) i 0 ≡ getD g i 0
 record-number g t e i n h = ap (λ (l : List ℕ). getD l i 0) (record-parts g t e) ∙ List·getD-append g _ 0 i (omega arith)
 
 module _ (g : List ℕ) (t : List Token) (e : List ℕ) (nine : length g ≡ 9) {l r p o d m : List Token} (S : Seven t l r p o d m) where
-  K : Marks₇ t l r p o d m
+  abbrev pub K : Marks₇ t l r p o d m
   K = seven-marks S
 
   -- the record behind its numbers before the timing section
-  timing-parts : (on : ℕ) (x : List ℕ) → numbers m ≡ on ∷ x → recordOf g t e ≡ (g ++ numbers (K .before-m)) ++ ((on ∷ x) ++ closing g t e)
+  pub timing-parts : (on : ℕ) (x : List ℕ) → numbers m ≡ on ∷ x → recordOf g t e ≡ (g ++ numbers (K .before-m)) ++ ((on ∷ x) ++ closing g t e)
   unfolding numbers
   timing-parts on x f =
       let a : List Token = K .before-m in
       let q : numbers t ≡ numbers a ++ (on ∷ x) = ap numbers (K .seventh .here) ∙ numbers-append (a ++ (section ∷ m)) (section ∷ []) ∙ append-nil _ ∙ numbers-append a (section ∷ m) ∙ ap (λ (y : List ℕ). numbers a ++ y) f in
       record-parts g t e ∙ ap (λ (y : List ℕ). g ++ (y ++ closing g t e)) q ∙ ap (λ (y : List ℕ). g ++ y) (append-assoc (numbers a) (on ∷ x) (closing g t e)) ∙ sym (append-assoc g (numbers a) ((on ∷ x) ++ closing g t e))
 
-  timing-start : (on : ℕ) (x : List ℕ) → numbers m ≡ on ∷ x → startOf (recordOf g t e) 7 ≡ length (g ++ numbers (K .before-m)) + suc (length x)
+  pub timing-start : (on : ℕ) (x : List ℕ) → numbers m ≡ on ∷ x → startOf (recordOf g t e) 7 ≡ length (g ++ numbers (K .before-m)) + suc (length x)
   unfolding numbers
   timing-start on x f =
       let a : List Token = K .before-m in
@@ -315,13 +328,17 @@ seven-of : (t l a p o b r d m : List Token) → t ≡ section ∷ (l ++ (a ++ (s
 seven-of t l a p o b r d m e f g = simp (e, f, g, append-assoc)
 
 module _ {s g : List ℕ} {t : List Token} {next : ℕ} (S : Sections s g t next) where
-  sets-marked : Marked (S .sets-kept)
+  pub sets-marked : Marked (S .sets-kept)
   sets-marked = keeps-sets (S .h) .holds s (S .at₂) (S .sets-read)
 
-  buffers-marked : Buffered (S .flag) (S .buffers-kept)
+  -- the number of entries of the DPB section
+  abbrev pub entries : ℕ
+  entries = dpbEntriesOf (S .sets .each-layer-flag) (numMultiLayerOlss (S .h .layers) (S .l .refs) (S .sets .sets))
+
+  pub buffers-marked : Buffered (S .h) entries (S .flag) (S .buffers-kept)
   buffers-marked = keeps-buffered (S .h) _ _ .holds s (S .at₅) (S .buffers-read)
 
-  seven-parts : Seven t (S .layers-kept) (sets-marked .inner) (S .ptls-kept) (S .ols-kept) (buffers-marked .dpb) (buffers-marked .timing)
+  pub seven-parts : Seven t (S .layers-kept) (sets-marked .inner) (S .ptls-kept) (S .ols-kept) (buffers-marked .dpb) (buffers-marked .timing)
   seven-parts = record {
     tokens =
         seven-of t (S .layers-kept) (S .sets-kept) (S .ptls-kept) (S .ols-kept) (S .buffers-kept) (sets-marked .inner) (buffers-marked .dpb) (buffers-marked .timing) (S .tokens-are) (sets-marked .is) (buffers-marked .is);
@@ -339,7 +356,7 @@ record-sound s g t next e R =
     let B = buffers-marked S in
     let P = keeps-ptls (S .h) _ .holds s (S .at₃) (S .ptls-read) in
     let O = keeps-ols (S .ptls) _ .holds s (S .at₄) (S .ols-read) in
-    sound-of g t e (ap length (S .general-is)) (seven-parts S) (S .h .layers) (S .flag) (S .ptls) _ (B .multi) (B .on) (P .0) (O .0) (B .rest)
+    sound-of g t e (ap length (S .general-is)) (seven-parts S) (S .h .layers) (S .flag) (S .ptls) _ (entries S) (B .on) (P .0) (O .0) (B .rest)
     (ap (λ (l : List ℕ). getD l 0 0) (S .general-is)) (ap (λ (l : List ℕ). getD l 7 0) (S .general-is)) (layers-rise (S .h) .holds s (S .at₁) (S .layers-read)) (P .1) (O .1) (O .2) (B .buffers) (B .timed) (B .inside)
 
 -- a table that is read has seven marks

@@ -17,8 +17,13 @@ pub mod Accepted
 pub mod Marks
 pub mod Plain
 pub mod Indices
+pub mod Places
+pub mod TimingViews
 pub mod Laid
 pub mod Claims
+pub mod SlotViews
+pub mod ByNumber
+pub mod Views
 pub mod Promises
 pub mod Bound
 pub mod Order

@@ -11,13 +11,13 @@ use Rattle.bits.specs.Code.{codeAt, codeOf}
 use Rattle.bits.specs.Code as Code
 use Rattle.bits.specs.FieldLaws.{field-lt, bits-length}
 use Rattle.bits.specs.CodeLaws.{Whole, code-whole}
-use Rattle.vps_definition.specs.Syntax.{Syntax, _>>=_, Token, numbers, run, emit, skim}
+use Rattle.vps_definition.specs.Syntax.{Syntax, _>>=_, Token, numbers, run, emit, skim, look}
 use Rattle.vps_definition.specs.Syntax.Syntax.{field, code, late, keep, mark, align, test, refuse, done}
 use Rattle.vps_definition.specs.Syntax.Outcome.{accepted}
 use Rattle.vps_definition.specs.Syntax.Written.{wrote}
-use Rattle.vps_laws.specs.Inversion.{Reads, run-reads, Writes, writes-emit, write-late-as}
+use Rattle.vps_laws.specs.Inversion.{Reads, run-reads, Writes, emit-writes, writes-emit, write-late-as}
 use Rattle.vps_laws.specs.Inversion.Reads.{read-field, read-code, read-late, read-keep, read-mark, pass-align, read-align, read-first, read-second, read-done}
-use Rattle.vps_laws.specs.Inversion.Writes.{write-field, write-code, write-keep, write-mark, write-align, write-first, write-second, write-done}
+use Rattle.vps_laws.specs.Inversion.Writes.{write-field, write-code, write-late, write-keep, write-mark, write-align, write-first, write-second, write-done}
 use Rattle.vps_laws.specs.Reading.{reads-grows}
 
 -- along a reading, `find` gives each late field its value: r is the whole record, x its rest from here on
@@ -128,3 +128,39 @@ reads-skim read-done r y h = refl
 pub skim-run : {A : Type 0} {a : A} {t : List Token} {next : ℕ} (m : Syntax A) (s : List ℕ) (at : ℕ) (r y : List ℕ) → run m s at ≡ accepted a t next
     → Coherent m s at r (numbers t ++ y) → skim m r (numbers t ++ y) ≡ y
 skim-run m s at r y e h = reads-skim (run-reads m s at e) r y h
+
+reads-look : {A : Type 0} {m : Syntax A} {s : List ℕ} {at : ℕ} {a : A} {t : List Token} {next : ℕ} → Reads m s at a t next → (d : A) (r y : List ℕ)
+    → Coherent m s at r (numbers t ++ y) → look d m r (numbers t ++ y) ≡ a
+unfolding Coherent numbers look
+reads-look (read-field R) d r y h = reads-look R d r y h
+reads-look (read-code e R) d r y h = reads-look R d r y (rw (e, Coherent) at h)
+reads-look (read-late {k} {t} R) d r y h = ap (λ (v : ℕ). look d (k v) r (numbers t ++ y)) (h .0) ∙ reads-look R d r y (h .1)
+reads-look (read-keep R) d r y h = reads-look R d r y h
+reads-look (read-mark R) d r y h = reads-look R d r y h
+reads-look (pass-align R) d r y h = reads-look R d r y h
+reads-look (read-align z R) d r y h = reads-look R d r y h
+reads-look (read-first R) d r y h = reads-look R d r y h
+reads-look (read-second R) d r y h = reads-look R d r y h
+reads-look read-done d r y h = refl
+
+-- what a table ended in is found again by looking through the numbers it kept
+pub look-run : {A : Type 0} {a : A} {t : List Token} {next : ℕ} (d : A) (m : Syntax A) (s : List ℕ) (at : ℕ) (r y : List ℕ) → run m s at ≡ accepted a t next
+    → Coherent m s at r (numbers t ++ y) → look d m r (numbers t ++ y) ≡ a
+look-run d m s at r y e h = reads-look (run-reads m s at e) d r y h
+
+-- ── Looking through a record that is written ──────────────────────────
+writes-look : {A : Type 0} {m : Syntax A} {r x : List ℕ} {at : ℕ} {a : A} {t : List Token} {y b : List ℕ} → Writes m r x at a t y b → (d : A) → (look d m r x ≡ a) × (skim m r x ≡ y)
+unfolding look skim
+writes-look (write-field l h W) d = writes-look W d
+writes-look (write-code l h W) d = writes-look W d
+writes-look (write-late h W) d = writes-look W d
+writes-look (write-keep W) d = writes-look W d
+writes-look (write-mark W) d = writes-look W d
+writes-look (write-align W) d = writes-look W d
+writes-look (write-first W) d = writes-look W d
+writes-look (write-second W) d = writes-look W d
+writes-look write-done d = (refl, refl)
+
+-- what the writer's table ends in is what looking finds
+pub look-emit : {A : Type 0} {a : A} {t : List Token} {y b : List ℕ} (d : A) (m : Syntax A) (r x : List ℕ) (at : ℕ) → emit m r x at ≡ wrote a t y b → (look d m r x ≡ a) × (skim m r x ≡ y)
+look-emit d m r x at e = writes-look (emit-writes m r x at e) d

@@ -19,14 +19,14 @@ pub record Begun (r general : List ℕ) : Type 0 where
   pub at : (i : ℕ) → i < 9 → getD r i 0 ≡ getD general i 0
 
 -- the header's numbers stand in it
-record HeaderAt (r : List ℕ) (h : Header) : Type 0 where
-  layers : getD r 0 0 ≡ h .layers
-  id : getD r 1 0 ≡ h .id
-  top : getD r 2 0 ≡ h .max-sublayers-minus1
-  default : getD r 3 0 ≡ h .default-max-tid-flag
-  all : getD r 4 0 ≡ h .all-independent-flag
+pub record HeaderAt (r : List ℕ) (h : Header) : Type 0 where
+  pub layers : getD r 0 0 ≡ h .layers
+  pub id : getD r 1 0 ≡ h .id
+  pub top : getD r 2 0 ≡ h .max-sublayers-minus1
+  pub default : getD r 3 0 ≡ h .default-max-tid-flag
+  pub all : getD r 4 0 ≡ h .all-independent-flag
 
-coh-header : Coh HeaderAt header
+pub coh-header : Coh HeaderAt header
 unfolding header
 coh-header =
     coh-bind (Stands 1) (coh-general 1 4) (λ id. returns-bind _ λ n. returns-bind _ λ top. returns-bind _ λ c. returns-bind _ λ d. returns-bind _ λ a. keeps-done (λ r h. h .id)) λ id.
@@ -37,11 +37,11 @@ coh-header =
     coh-bind (Stands 4) (coh-general-if _ 4 1 1) (λ a. keeps-done (λ r h. h .all)) λ a.
     local-done
 
-record SetsAt (r : List ℕ) (s : SetsRead) : Type 0 where
-  each : getD r 5 0 ≡ s .each-layer-flag
-  mode : getD r 6 0 ≡ s .mode-idc
+pub record SetsAt (r : List ℕ) (s : SetsRead) : Type 0 where
+  pub each : getD r 5 0 ≡ s .each-layer-flag
+  pub mode : getD r 6 0 ≡ s .mode-idc
 
-coh-sets-section : (h : Header) → Coh SetsAt (sets-section h)
+pub coh-sets-section : (h : Header) → Coh SetsAt (sets-section h)
 unfolding sets-section
 coh-sets-section h =
     coh-bind (Stands 5) (coh-general-if _ 5 1 _) (λ e. returns-bind _ λ m. returns-bind _ λ c. returns-bind _ λ s. keeps-done (λ r h. h .each)) λ e.
