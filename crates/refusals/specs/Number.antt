@@ -128,3 +128,7 @@ not-well-formed = 31
 -- writer, bit steps, adding and removing stuffing: output too short
 abbrev pub output-too-short : ℕ
 output-too-short = 32
+
+-- layers: vps_video_parameter_set_id is 0; said where the rule of it is in force
+abbrev pub id-zero : ℕ
+id-zero = 34

@@ -1,3 +1,4 @@
+pub mod Rules
 pub mod Syntax
 pub mod Words
 pub mod OutputLayerSets
@@ -11,6 +12,7 @@ pub mod Writing
 pub mod Lookup
 pub mod Open
 pub mod Cases
+pub mod RuleCases
 pub mod Layout
 pub mod Views
 pub mod ViewCases

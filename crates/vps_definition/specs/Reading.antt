@@ -10,9 +10,10 @@ use Rattle.refusals.specs.Number.{unit-too-short, not-a-vps, rbsp-too-long}
 use Rattle.stuffing.specs.Stuffing.{unstuff}
 use Rattle.bits.specs.Bits.{bitAt, toBoundary}
 use Rattle.bits.specs.Reading.{moreData, trailingAt}
+use Rattle.vps_definition.specs.Rules.{Rules, today}
 use Rattle.vps_definition.specs.Syntax.{Outcome, run, Span, span, spans}
 use Rattle.vps_definition.specs.Syntax.Outcome.{accepted, refused}
-use Rattle.vps_definition.specs.Vps.{vps}
+use Rattle.vps_definition.specs.Vps.{vpsUnder}
 use Rattle.vps_definition.specs.Record.{recordOf}
 
 -- a record, and the bits used through the trailing bits; or a refusal's number
@@ -46,8 +47,11 @@ closed s (accepted general t at) =
     ended (recordOf general t (bitsAt s at n)) (trailingAt s (at + n))
 closed s (refused n t) = refuses n
 
-unfoldable pub readRbsp : List ℕ → Reading
-readRbsp s = closed s (run vps s 0)
+unfoldable pub readRbspUnder : Rules → List ℕ → Reading
+readRbspUnder rules s = closed s (run (vpsUnder rules) s 0)
+
+abbrev pub readRbsp : List ℕ → Reading
+readRbsp = readRbspUnder today
 
 -- the bits that the reading takes: the table's, the extension's, and the trailing bits
 unfoldable pub closedSpans : List ℕ → Outcome (List ℕ) → List Span
@@ -56,20 +60,34 @@ closedSpans s (accepted general t at) =
     span at (at + n) ∷ span (at + n) (at + n + 1 + toBoundary (at + n + 1)) ∷ []
 closedSpans s (refused n t) = []
 
-unfoldable pub rbspSpans : List ℕ → List Span
-rbspSpans s = spans vps s 0 ++ closedSpans s (run vps s 0)
+unfoldable pub rbspSpansUnder : Rules → List ℕ → List Span
+rbspSpansUnder rules s = spans (vpsUnder rules) s 0 ++ closedSpans s (run (vpsUnder rules) s 0)
+
+abbrev pub rbspSpans : List ℕ → List Span
+rbspSpans = rbspSpansUnder today
 
 abbrev pub most-rbsp-bytes : ℕ
 most-rbsp-bytes = 65535
 
-unfoldable pub readLimited : List ℕ → Reading
-readLimited s = elim (leb (length s) most-rbsp-bytes) [ true ↦ readRbsp s | false ↦ refuses rbsp-too-long ]
+-- an RBSP within the limit, by a given reading of it
+unfoldable pub limitedBy : (List ℕ → Reading) → List ℕ → Reading
+limitedBy read s = elim (leb (length s) most-rbsp-bytes) [ true ↦ read s | false ↦ refuses rbsp-too-long ]
+
+abbrev pub readLimited : List ℕ → Reading
+readLimited = limitedBy readRbsp
 
 -- nal_unit_type of a VPS
 abbrev pub vps-nut : ℕ
 vps-nut = 14
 
-unfoldable pub readUnit : List ℕ → Reading
-readUnit [] = refuses unit-too-short
-readUnit (a ∷ []) = refuses unit-too-short
-readUnit (a ∷ b ∷ s) = elim (eqb (b / 8) vps-nut) [ true ↦ readLimited (unstuff s) | false ↦ refuses not-a-vps ]
+-- a unit, by a given reading of its RBSP
+unfoldable pub unitBy : (List ℕ → Reading) → List ℕ → Reading
+unitBy read [] = refuses unit-too-short
+unitBy read (a ∷ []) = refuses unit-too-short
+unitBy read (a ∷ b ∷ s) = elim (eqb (b / 8) vps-nut) [ true ↦ limitedBy read (unstuff s) | false ↦ refuses not-a-vps ]
+
+abbrev pub readUnitUnder : Rules → List ℕ → Reading
+readUnitUnder rules = unitBy (readRbspUnder rules)
+
+abbrev pub readUnit : List ℕ → Reading
+readUnit = readUnitUnder today

@@ -9,23 +9,26 @@ use Rattle.vps_definition.specs.OutputLayerSets.{Sets, inSet}
 use Rattle.vps_definition.specs.OutputLayerSets.Sets.{each-layer}
 use Rattle.vps_definition.specs.DpbParameters.{sublayers}
 use Rattle.vps_definition.specs.TimingHrd.{Hrd, general-timing-hrd}
-use Rattle.vps_definition.specs.Vps.{Header, Layers, SetsRead, header, layers-section, sets-section, slotAt}
+use Rattle.vps_definition.specs.Vps.{Header, Layers, SetsRead, layers-section, sets-section, slotAt}
 use Rattle.vps_definition.specs.Layout.{fromSection}
 
 -- ── What the tables ended in ──────────────────────────────────────────
 -- what a list that no table runs through gives
-abbrev pub no-header : Header
-no-header = record { id = 0; layers = 0; max-sublayers-minus1 = 0; default-max-tid-flag = 0; all-independent-flag = 0 }
-
 abbrev pub no-layers : Layers
 no-layers = record { least = 0; refs = [] }
 
 abbrev pub no-sets : SetsRead
 no-sets = record { each-layer-flag = 0; mode-idc = 0; sets = each-layer }
 
--- the header's numbers all stand in the General section
+-- the header's numbers all stand in the General section, whatever the rules are
 unfoldable pub headerOf : List ℕ → Header
-headerOf r = look no-header header r []
+headerOf r = record {
+  id = getD r 1 0;
+  layers = getD r 0 0;
+  max-sublayers-minus1 = getD r 2 0;
+  default-max-tid-flag = getD r 3 0;
+  all-independent-flag = getD r 4 0;
+}
 
 unfoldable pub layersOf : List ℕ → Layers
 layersOf r = look no-layers (layers-section (headerOf r)) r (fromSection r 1)

@@ -1,13 +1,14 @@
 -- video_parameter_set_rbsp() of H.266 clause 7.3.2.3 up to the extension flag, in coded order, with the record's layout.
 use Prim.Native.Nat.{ℕ, zero, suc, _+_, _-_}
 use mathlib.Core.List.{List, [], _∷_, _++_}
-use mathlib.Core.Bool.{Bool, cond, _&&_}
+use mathlib.Core.Bool.{Bool, cond, not, _&&_, _||_}
 use lib.Dec.{ltb, leb, eqb}
 use lib.ListN.{getD}
-use Rattle.refusals.specs.Number.{sublayers-reserved, layer-ids-not-rising, no-direct-reference, mode-reserved, no-output-layer, ptls-over-sets, ptl-max-tid, ptl-alignment, ptl-index}
+use Rattle.refusals.specs.Number.{id-zero, sublayers-reserved, layer-ids-not-rising, no-direct-reference, mode-reserved, no-output-layer, ptls-over-sets, ptl-max-tid, ptl-alignment, ptl-index, dpb-slots}
+use Rattle.vps_definition.specs.Rules.{Rules, today}
 use Rattle.vps_definition.specs.Syntax.{Syntax, _>>=_, skim}
 use Rattle.vps_definition.specs.Syntax.Syntax.{late, keep, mark, test, done}
-use Rattle.vps_definition.specs.Words.{sum, u, u-minus1, inferred, u-if, general, general-if, check, when, aligned, loop}
+use Rattle.vps_definition.specs.Words.{sum, u, u-minus1, inferred, u-if, general, general-if, check, ruled, when, aligned, loop}
 use Rattle.vps_definition.specs.OutputLayerSets.{Sets, totalNumOlss, numMultiLayerOlss}
 use Rattle.vps_definition.specs.OutputLayerSets.Sets.{each-layer, up-to, chosen}
 use Rattle.vps_definition.specs.ProfileTierLevel.{profile-tier-level}
@@ -24,12 +25,12 @@ pub record Header : Type 0 where
   pub all-independent-flag : ℕ
 
 -- kept in the General section
-unfoldable pub header : Syntax Header
-header = do
+unfoldable pub headerUnder : Rules → Syntax Header
+headerUnder rules = do
   vps-video-parameter-set-id ← general 1 4
   vps-max-layers-minus1 ← late 6 (λ r x. getD r 0 0 - 1) done
   vps-max-sublayers-minus1 ← general 2 3
-  c5 ← check (leb vps-max-sublayers-minus1 6) sublayers-reserved
+  c5 ← ruled (rules .id-zero-refused) (ltb 0 vps-video-parameter-set-id) id-zero (check (leb vps-max-sublayers-minus1 6) sublayers-reserved)
   vps-default-ptl-dpb-hrd-max-tid-flag ← general-if (ltb 0 vps-max-layers-minus1 && ltb 0 vps-max-sublayers-minus1) 3 1 1
   vps-all-independent-layers-flag ← general-if (ltb 0 vps-max-layers-minus1) 4 1 1
   done (record {
@@ -39,6 +40,9 @@ header = do
     default-max-tid-flag = vps-default-ptl-dpb-hrd-max-tid-flag;
     all-independent-flag = vps-all-independent-layers-flag;
   })
+
+abbrev pub header : Syntax Header
+header = headerUnder today
 
 -- ── Layers ────────────────────────────────────────────────────────────
 -- what goes from layer to layer: the least id that is allowed next, and each layer's direct reference flags
@@ -180,13 +184,21 @@ generalOf h s dpb-flag extension-flag =
     h .layers ∷ h .id ∷ h .max-sublayers-minus1 ∷ h .default-max-tid-flag ∷ h .all-independent-flag
     ∷ s .each-layer-flag ∷ s .mode-idc ∷ dpb-flag ∷ extension-flag ∷ []
 
-unfoldable pub vps : Syntax (List ℕ)
-vps = do
-  h ← header
+-- each layer is a set, or some set has several layers: there can be a DPB slot for each set that needs one
+abbrev pub slotsPossible : (each-layer-flag multi : ℕ) → Bool
+slotsPossible each-layer-flag multi = not (eqb each-layer-flag 0) || ltb 0 multi
+
+unfoldable pub vpsUnder : Rules → Syntax (List ℕ)
+vpsUnder rules = do
+  h ← headerUnder rules
   l ← mark (layers-section h)
   s ← sets-section h
-  ptls ← mark (ptl-section h (totalNumOlss (h .layers) (s .sets)))
+  ptls ← ruled (rules .early-slots) (slotsPossible (s .each-layer-flag) (numMultiLayerOlss (h .layers) (l .refs) (s .sets))) dpb-slots
+      (mark (ptl-section h (totalNumOlss (h .layers) (s .sets))))
   o ← mark (ols-section ptls (totalNumOlss (h .layers) (s .sets)))
   flag ← buffer-sections h (s .each-layer-flag) (numMultiLayerOlss (h .layers) (l .refs) (s .sets))
   vps-extension-flag ← general 8 1
   mark (done (generalOf h s flag vps-extension-flag))
+
+abbrev pub vps : Syntax (List ℕ)
+vps = vpsUnder today

@@ -1,7 +1,7 @@
 -- The words that tables are written with.
 use Prim.Native.Nat.{ℕ, zero, suc, _+_}
 use mathlib.Core.List.{List, [], _∷_}
-use mathlib.Core.Bool.{Bool}
+use mathlib.Core.Bool.{Bool, true, false}
 use lib.Dec.{eqb}
 use lib.ListN.{getD}
 use Rattle.vps_definition.specs.Syntax.{Syntax, _>>=_}
@@ -42,6 +42,11 @@ general-if b i w v = test b (general i w) (done v)
 -- refused with n unless the condition holds
 unfoldable pub check : Bool → ℕ → Syntax (Unit {0})
 check b n = test b (done tt) (refuse n)
+
+-- a table; where a rule is in force, behind the rule's check
+unfoldable pub ruled : {A : Type 0} → (rule condition : Bool) → ℕ → Syntax A → Syntax A
+ruled true b n m = check b n >>= λ c. m
+ruled false b n m = m
 
 -- nothing
 unfoldable pub nothing : Syntax (Unit {0})

@@ -10,10 +10,11 @@ use Rattle.refusals.specs.Number.{not-well-formed}
 use Rattle.stuffing.specs.Stuffing.{stuff}
 use Rattle.bits.specs.Bits.{pack}
 use Rattle.bits.specs.Writing.{trailingBits}
+use Rattle.vps_definition.specs.Rules.{Rules, today}
 use Rattle.vps_definition.specs.Syntax.{Written, emit}
 use Rattle.vps_definition.specs.Syntax.Written.{wrote, bad}
 use Rattle.vps_definition.specs.Syntax.{Token}
-use Rattle.vps_definition.specs.Vps.{vps}
+use Rattle.vps_definition.specs.Vps.{vpsUnder}
 use Rattle.vps_definition.specs.Record.{recordOf}
 use Rattle.vps_definition.specs.Reading.{most-rbsp-bytes}
 
@@ -68,8 +69,14 @@ finished r (wrote general t x b) =
     ]
 
 -- a well-formed record's bytes; any other is refused
-unfoldable pub writeRecord : List ℕ → Answer (List ℕ)
-writeRecord r = finished r (emit vps r (drop 9 r) 0)
+unfoldable pub writeRecordUnder : Rules → List ℕ → Answer (List ℕ)
+writeRecordUnder rules r = finished r (emit (vpsUnder rules) r (drop 9 r) 0)
 
-unfoldable pub wellFormed : List ℕ → Bool
-wellFormed r = elim (writeRecord r) [ success bytes ↦ true | refusal n ↦ false ]
+abbrev pub writeRecord : List ℕ → Answer (List ℕ)
+writeRecord = writeRecordUnder today
+
+unfoldable pub wellFormedUnder : Rules → List ℕ → Bool
+wellFormedUnder rules r = elim (writeRecordUnder rules r) [ success bytes ↦ true | refusal n ↦ false ]
+
+abbrev pub wellFormed : List ℕ → Bool
+wellFormed = wellFormedUnder today

@@ -13,23 +13,24 @@ use Rattle.bits.specs.Bits.{fieldAt, toBoundary}
 use Rattle.bits.specs.Code.{codeAt}
 use Rattle.bits.specs.CodeLaws.{code-length, code-whole}
 use Rattle.bits.specs.TrailingLaws.{trails-inside}
+use Rattle.vps_definition.specs.Rules.{Rules}
 use Rattle.vps_definition.specs.Syntax.{Syntax, _>>=_, Token, numbers, starts, keeping, run}
 use Rattle.vps_definition.specs.Syntax.Syntax.{field, code, late, keep, mark, align, test, refuse, done}
 use Rattle.vps_definition.specs.Syntax.Token.{number, section}
 use Rattle.vps_definition.specs.Syntax.Outcome.{accepted}
-use Rattle.vps_definition.specs.Words.{u, u-minus1, ue, ue-minus1, inferred, u-if, ue-if, general, general-if, check, nothing, when, aligned, keeps, loop, repeat}
+use Rattle.vps_definition.specs.Words.{u, u-minus1, ue, ue-minus1, inferred, u-if, ue-if, general, general-if, check, ruled, nothing, when, aligned, keeps, loop, repeat}
 use Rattle.vps_definition.specs.OutputLayerSets.{Sets, digit, countBelow, totalNumOlss, numMultiLayerOlss}
 use Rattle.vps_definition.specs.ProfileTierLevel.{falling, reversed, ahead, constraint-bit, constraints, constraints-if, general-constraints-info, profile-and-tier, sub-profile, sub-profiles, profile-tier-level}
 use Rattle.vps_definition.specs.DpbParameters.{dpb-sublayer, per-sublayer, index, ols-dpb, dpb-section}
 use Rattle.vps_definition.specs.TimingHrd.{Hrd, general-timing-hrd, du-values, schedule, sublayer-hrd, timing-sublayer, timing-section}
-use Rattle.vps_definition.specs.Vps.{Header, Layers, Head, header, direct-reference, dependent-layer, independent-layer, layer, layers-section, output-flag, row, rows-section, no-rows, sets-section, slot-number-if, ptl-head, ptl-slot, ptl-section, ols-section, multi-layer-sections, single-layer-sections, buffer-sections, vps}
+use Rattle.vps_definition.specs.Vps.{Header, Layers, Head, headerUnder, direct-reference, dependent-layer, independent-layer, layer, layers-section, output-flag, row, rows-section, no-rows, sets-section, slot-number-if, ptl-head, ptl-slot, ptl-section, ols-section, multi-layer-sections, single-layer-sections, buffer-sections, vpsUnder}
 use Rattle.vps_definition.specs.Record.{recordOf}
-use Rattle.vps_definition.specs.Reading.{bitsAt, extensionBits, readRbsp, most-rbsp-bytes, readUnit}
+use Rattle.vps_definition.specs.Reading.{bitsAt, extensionBits, readRbspUnder, most-rbsp-bytes, readUnitUnder}
 use Rattle.vps_definition.specs.Reading.Reading.{accepts}
 use Rattle.vps_laws.specs.Inversion.{not-accepted, keeping-accepted, guard-accepted, code-accepted}
 use Rattle.vps_laws.specs.Bind.{run-bound}
 use Rattle.vps_laws.specs.Reading.{run-grows}
-use Rattle.vps_laws.specs.Keeps.{Keeps, Returns, keeps-any, keeps-so, keeps-bind, keeps-late, keeps-keep, keeps-mark, keeps-test, keeps-done, keeps-u-minus1, keeps-inferred, keeps-check, keeps-loop, returns-bind}
+use Rattle.vps_laws.specs.Keeps.{Keeps, Returns, keeps-any, keeps-so, keeps-bind, keeps-late, keeps-keep, keeps-mark, keeps-test, keeps-done, keeps-u-minus1, keeps-inferred, keeps-check, keeps-ruled, keeps-loop, returns-bind}
 use Rattle.vps_laws.specs.Extension.{bits-at-length}
 use Rattle.vps_laws.specs.Units.{rbsp-parts, unit-accepted}
 use Rattle.vps_laws.specs.Accepted.{record-parts, general-read}
@@ -159,6 +160,11 @@ costs-check : (b : Bool) (n : ℕ) → Costs 0 (check b n)
 unfolding check
 costs-check b n = costs-test b costs-done costs-refuse
 
+costs-ruled : {A : Type 0} {c : ℕ} (rule b : Bool) (n : ℕ) {m : Syntax A} → Costs c m → Costs c (ruled rule b n m)
+unfolding ruled
+costs-ruled true b n M = costs-none (costs-check b n) (λ o. M)
+costs-ruled false b n M = M
+
 -- behind a check, its condition holds
 costs-checked : {B : Type 0} {c : ℕ} (b : Bool) (n : ℕ) {f : Unit {0} → Syntax B} → ((o : Unit {0}) → b ≡ true → Costs c (f o)) → Costs c (check b n >>= f)
 costs-checked b n F = costs-so (costs-bind-so (keeps-check b n) (costs-check b n) (λ o t e. F o (e .1))) (omega arith)
@@ -214,7 +220,7 @@ unfolding repeat
 costs-repeats n M = costs-turns n 0 tt (λ j y. M)
 
 -- a table of such words, by `search words depth 40`
-ruleset words = (costs-none, costs-one, costs-test, costs-done, costs-late, costs-u, costs-u-minus1, costs-ue, costs-general, costs-general-if, costs-check, costs-nothing, costs-aligned, costs-when, costs-inferred, costs-u-if, costs-ue-if, costs-turns, costs-repeats)
+ruleset words = (costs-none, costs-one, costs-test, costs-done, costs-late, costs-u, costs-u-minus1, costs-ue, costs-general, costs-general-if, costs-check, costs-ruled, costs-nothing, costs-aligned, costs-when, costs-inferred, costs-u-if, costs-ue-if, costs-turns, costs-repeats)
 
 -- ── Layers ────────────────────────────────────────────────────────────
 costs-direct-reference : (present top j : ℕ) (flags : List ℕ) → Costs 1 (direct-reference present top j flags)
@@ -416,13 +422,13 @@ costs-buffer-sections h each multi k l =
     (costs-mark refl (costs-keep refl (costs-keep refl (costs-mark refl (costs-keep refl costs-done)))))
 
 -- ── What the counts are at most ───────────────────────────────────────
-pub header-most : Returns (λ h. (h .layers ≤ 64) × (h .max-sublayers-minus1 ≤ 6)) header
-unfolding header
-header-most =
+pub header-most : (rules : Rules) → Returns (λ h. (h .layers ≤ 64) × (h .max-sublayers-minus1 ≤ 6)) (headerUnder rules)
+unfolding headerUnder
+header-most rules =
     returns-bind _ λ id.
     keeps-bind (keeps-late (λ v l. keeps-done l)) λ n t (l : n < 2 ^ 6).
     returns-bind _ λ top.
-    keeps-bind (keeps-check _ _) λ c u e.
+    keeps-bind (keeps-ruled _ _ _ (keeps-check _ _)) λ c u e.
     returns-bind _ λ d. returns-bind _ λ a. keeps-done (omega arith, leb-true top 6 (e .1))
 
 rows-most : (n : ℕ) → Returns (λ sets. totalNumOlss n sets ≤ 257) (rows-section n)
@@ -449,18 +455,18 @@ count-most (suc n) p = go (p 0) (count-most n (λ j. p (suc j)))
     go false h = omega arith
 
 -- ── The whole ─────────────────────────────────────────────────────────
-costs-header : Costs 0 header
-unfolding header
-costs-header = search words depth 20
+costs-header : (rules : Rules) → Costs 0 (headerUnder rules)
+unfolding headerUnder
+costs-header rules = search words depth 20
 
 -- each section with its mark
-costs-vps : Costs 11565 vps
-unfolding vps numMultiLayerOlss
-costs-vps =
-    costs-bind-so {c = 11565} header-most costs-header λ h x e.
+costs-vps : (rules : Rules) → Costs 11565 (vpsUnder rules)
+unfolding vpsUnder numMultiLayerOlss
+costs-vps rules =
+    costs-bind-so {c = 11565} (header-most rules) (costs-header rules) λ h x e.
     costs-after (1 + 64 * 64) refl (costs-mark refl (costs-layers-section h (e .0))) λ l.
     costs-bind-so {c = 7466} (sets-most h (e .0)) (costs-sets-section h) λ s y k.
-    costs-after (2 + 256 * 3) refl (costs-mark refl (costs-ptl-section h _)) λ ptls.
+    costs-after (2 + 256 * 3) refl (costs-ruled _ _ _ (costs-mark refl (costs-ptl-section h _))) λ ptls.
     costs-after (2 + 257) refl (costs-mark refl (costs-ols-section ptls _ k)) λ o.
     costs-after 6436 refl (costs-buffer-sections h _ _ (e .1) (le-trans (count-most _ _) k)) λ flag.
     costs-none (costs-general 8 1) λ f. costs-mark refl costs-done
@@ -481,25 +487,25 @@ record-numbers general t e = ap length (record-parts general t e) ∙ simp lengt
 abbrev pub most-uncoded : ℕ
 most-uncoded = 11575
 
-pub record-by-bits : (s r : List ℕ) (n : ℕ) → readRbsp s ≡ accepts r n → length r ≤ n + most-uncoded
-record-by-bits s r n e =
-    let P = rbsp-parts s r n e in
+pub record-by-bits : (rules : Rules) (s r : List ℕ) (n : ℕ) → readRbspUnder rules s ≡ accepts r n → length r ≤ n + most-uncoded
+record-by-bits rules s r n e =
+    let P = rbsp-parts rules s r n e in
     let g : List ℕ = P .general in
     let at : ℕ = P .behind in
     let m : ℕ = extensionBits (getD g 8 0) s at in
     let T = P .ends in
     let i = T .inside in
     let b = T .behind in
-    let G = general-read s g (P .tokens) at (P .reads) in
-    omega (arith, ap length (P .is), record-numbers g (P .tokens) (bitsAt s at m), G .nine, bits-at-length s at m, costs-vps .holds s 0 (P .reads) (omega arith))
+    let G = general-read rules s g (P .tokens) at (P .reads) in
+    omega (arith, ap length (P .is), record-numbers g (P .tokens) (bitsAt s at m), G .nine, bits-at-length s at m, costs-vps rules .holds s 0 (P .reads) (omega arith))
 
 -- so a record has at most 535,855 numbers
 abbrev pub most-record-numbers : ℕ
 most-record-numbers = 8 * most-rbsp-bytes + most-uncoded
 
-pub record-length : (u r : List ℕ) (n : ℕ) → readUnit u ≡ accepts r n → length r ≤ most-record-numbers
-record-length u r n e =
-    let A = unit-accepted u r n e in
+pub record-length : (rules : Rules) (u r : List ℕ) (n : ℕ) → readUnitUnder rules u ≡ accepts r n → length r ≤ most-record-numbers
+record-length rules u r n e =
+    let A = unit-accepted rules u r n e in
     let s : List ℕ = unstuff (A .payload) in
-    let P = rbsp-parts s r n (A .reads) in
-    omega (arith, A .short, trails-inside s _ n (P .ends), record-by-bits s r n (A .reads))
+    let P = rbsp-parts rules s r n (A .reads) in
+    omega (arith, A .short, trails-inside s _ n (P .ends), record-by-bits rules s r n (A .reads))

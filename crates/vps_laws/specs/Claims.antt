@@ -9,13 +9,14 @@ use Rattle.refusals.specs.Answer.{Answer}
 use Rattle.refusals.specs.Answer.Answer.{success, refusal}
 use Rattle.stuffing.specs.Stuffing.{unstuff}
 use Rattle.bits.specs.TrailingLaws.{Trails, trails-inside}
+use Rattle.vps_definition.specs.Rules.{Rules}
 use Rattle.vps_definition.specs.Syntax.{Span, span, spans, run}
 use Rattle.vps_definition.specs.Syntax.Outcome.{accepted}
-use Rattle.vps_definition.specs.Vps.{vps}
+use Rattle.vps_definition.specs.Vps.{vpsUnder}
 use Rattle.vps_definition.specs.Layout.{fromSection, entryLength, idsFrom, layerIds}
-use Rattle.vps_definition.specs.Reading.{extensionBits, closedSpans, rbspSpans, readRbsp, most-rbsp-bytes, readUnit}
+use Rattle.vps_definition.specs.Reading.{extensionBits, closedSpans, rbspSpansUnder, readRbspUnder, most-rbsp-bytes, readUnitUnder}
 use Rattle.vps_definition.specs.Reading.Reading.{accepts}
-use Rattle.vps_definition.specs.Writing.{unitOf, writeRecord, wellFormed}
+use Rattle.vps_definition.specs.Writing.{unitOf, writeRecordUnder, wellFormedUnder}
 use Rattle.vps_laws.specs.Reading.{Each, each-join, Within, spans-inside}
 use Rattle.vps_laws.specs.Keeps.{Below}
 use Rattle.vps_laws.specs.Units.{Parts, rbsp-parts, Accepted, unit-accepted, written-read}
@@ -51,35 +52,35 @@ ids-many r = ids-from-many (getD r 0 0) 0 (fromSection r 1)
 abbrev pub rbspIn : List ℕ → List ℕ
 rbspIn u = unstuff (drop 2 u)
 
-pub accepted-reads : (u r : List ℕ) (n : ℕ) → readUnit u ≡ accepts r n → readRbsp (rbspIn u) ≡ accepts r n
-accepted-reads u r n e = let A = unit-accepted u r n e in ap (λ (x : List ℕ). readRbsp (rbspIn x)) (A .bytes) ∙ A .reads
+pub accepted-reads : (rules : Rules) (u r : List ℕ) (n : ℕ) → readUnitUnder rules u ≡ accepts r n → readRbspUnder rules (rbspIn u) ≡ accepts r n
+accepted-reads rules u r n e = let A = unit-accepted rules u r n e in ap (λ (x : List ℕ). readRbspUnder rules (rbspIn x)) (A .bytes) ∙ A .reads
 
-pub accepted-short : (u r : List ℕ) (n : ℕ) → readUnit u ≡ accepts r n → length (rbspIn u) ≤ most-rbsp-bytes
-accepted-short u r n e = let A = unit-accepted u r n e in rw (A .bytes) (A .short)
+pub accepted-short : (rules : Rules) (u r : List ℕ) (n : ℕ) → readUnitUnder rules u ≡ accepts r n → length (rbspIn u) ≤ most-rbsp-bytes
+accepted-short rules u r n e = let A = unit-accepted rules u r n e in rw (A .bytes) (A .short)
 
-pub accepted-sound : (u r : List ℕ) (n : ℕ) → readUnit u ≡ accepts r n → Sound r
-accepted-sound u r n e =
-    let P = rbsp-parts (rbspIn u) r n (accepted-reads u r n e) in
-    rw (P .is) (record-sound (rbspIn u) (P .general) (P .tokens) (P .behind) _ (P .reads))
+pub accepted-sound : (rules : Rules) (u r : List ℕ) (n : ℕ) → readUnitUnder rules u ≡ accepts r n → Sound r
+accepted-sound rules u r n e =
+    let P = rbsp-parts rules (rbspIn u) r n (accepted-reads rules u r n e) in
+    rw (P .is) (record-sound rules (rbspIn u) (P .general) (P .tokens) (P .behind) _ (P .reads))
 
-pub accepted-written : (u r : List ℕ) (n : ℕ) → readUnit u ≡ accepts r n → (v : List ℕ) × (writeRecord r ≡ success v)
-accepted-written u r n e =
-    let W = rbsp-rewritten (rbspIn u) r n (accepted-short u r n e) (accepted-reads u r n e) in
+pub accepted-written : (rules : Rules) (u r : List ℕ) (n : ℕ) → readUnitUnder rules u ≡ accepts r n → (v : List ℕ) × (writeRecordUnder rules r ≡ success v)
+accepted-written rules u r n e =
+    let W = rbsp-rewritten rules (rbspIn u) r n (accepted-short rules u r n e) (accepted-reads rules u r n e) in
     (unitOf (W .rbsp), W .written)
 
-pub written-well-formed : (r u : List ℕ) → writeRecord r ≡ success u → wellFormed r ≡ true
-unfolding wellFormed
-written-well-formed r u e = ap (λ (a : Answer (List ℕ)). elim a as (λ d. Bool) [ success b ↦ true | refusal n ↦ false ]) e
+pub written-well-formed : (rules : Rules) (r u : List ℕ) → writeRecordUnder rules r ≡ success u → wellFormedUnder rules r ≡ true
+unfolding wellFormedUnder
+written-well-formed rules r u e = ap (λ (a : Answer (List ℕ)). elim a as (λ d. Bool) [ success b ↦ true | refusal n ↦ false ]) e
 
-pub refused-ill-formed : (r : List ℕ) {n : ℕ} → writeRecord r ≡ refusal n → wellFormed r ≡ false
-unfolding wellFormed
-refused-ill-formed r e = ap (λ (a : Answer (List ℕ)). elim a as (λ d. Bool) [ success b ↦ true | refusal n ↦ false ]) e
+pub refused-ill-formed : (rules : Rules) (r : List ℕ) {n : ℕ} → writeRecordUnder rules r ≡ refusal n → wellFormedUnder rules r ≡ false
+unfolding wellFormedUnder
+refused-ill-formed rules r e = ap (λ (a : Answer (List ℕ)). elim a as (λ d. Bool) [ success b ↦ true | refusal n ↦ false ]) e
 
-pub well-formed-written : (r : List ℕ) → wellFormed r ≡ true → (u : List ℕ) × (writeRecord r ≡ success u)
-unfolding wellFormed
-well-formed-written r e = go (writeRecord r) refl e
+pub well-formed-written : (rules : Rules) (r : List ℕ) → wellFormedUnder rules r ≡ true → (u : List ℕ) × (writeRecordUnder rules r ≡ success u)
+unfolding wellFormedUnder
+well-formed-written rules r e = go (writeRecordUnder rules r) refl e
   where
-    go : (a : Answer (List ℕ)) → writeRecord r ≡ a → elim a as (λ d. Bool) [ success b ↦ true | refusal n ↦ false ] ≡ true → (u : List ℕ) × (writeRecord r ≡ success u)
+    go : (a : Answer (List ℕ)) → writeRecordUnder rules r ≡ a → elim a as (λ d. Bool) [ success b ↦ true | refusal n ↦ false ] ≡ true → (u : List ℕ) × (writeRecordUnder rules r ≡ success u)
     go (success u) f g = (u, f)
     go (refusal n) f g = absurd (let n : _≡_ {A = ℕ} 0 1 = cc in omega arith)
 
@@ -88,17 +89,17 @@ each-so : {A : Type 0} (P Q : A → Type 0) (l : List A) → ((a : A) → P a �
 each-so P Q [] f h = tt
 each-so P Q (a ∷ l) f h = (f a (h .0), each-so P Q l f (h .1))
 
-pub bits-counted : (s r : List ℕ) (n : ℕ) → readRbsp s ≡ accepts r n → (n ≤ 8 * length s) × Each (λ sp. sp .to ≤ n) (rbspSpans s)
-unfolding rbspSpans closedSpans
-bits-counted s r n e =
-    let P = rbsp-parts s r n e in
+pub bits-counted : (rules : Rules) (s r : List ℕ) (n : ℕ) → readRbspUnder rules s ≡ accepts r n → (n ≤ 8 * length s) × Each (λ sp. sp .to ≤ n) (rbspSpansUnder rules s)
+unfolding rbspSpansUnder closedSpans
+bits-counted rules s r n e =
+    let P = rbsp-parts rules s r n e in
     let at : ℕ = P .behind in
     let m : ℕ = extensionBits (getD (P .general) 8 0) s at in
     let T = P .ends in
     let b = T .behind in
     let l : at ≤ n = omega arith in (
       trails-inside s (at + m) n T,
-      each-join (λ sp. sp .to ≤ n) (spans vps s 0) (closedSpans s (run vps s 0))
-          (each-so (Within 0 at) (λ sp. sp .to ≤ n) (spans vps s 0) (λ sp h. omega (arith, h .2)) (spans-inside vps s 0 (P .reads)))
+      each-join (λ sp. sp .to ≤ n) (spans (vpsUnder rules) s 0) (closedSpans s (run (vpsUnder rules) s 0))
+          (each-so (Within 0 at) (λ sp. sp .to ≤ n) (spans (vpsUnder rules) s 0) (λ sp h. omega (arith, h .2)) (spans-inside (vpsUnder rules) s 0 (P .reads)))
           (rw (P .reads) (omega arith, (omega arith, tt))),
     )

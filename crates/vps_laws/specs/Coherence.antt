@@ -13,7 +13,7 @@ use Rattle.vps_definition.specs.Syntax.{Syntax, _>>=_, Token, numbers, keeping,
 use Rattle.vps_definition.specs.Syntax.Syntax.{field, code, late, keep, mark, align, test, refuse, done}
 use Rattle.vps_definition.specs.Syntax.Token.{number, section}
 use Rattle.vps_definition.specs.Syntax.Outcome.{accepted}
-use Rattle.vps_definition.specs.Words.{u, u-minus1, ue, ue-minus1, inferred, u-if, ue-if, general, general-if, check, nothing, when, aligned, keeps, loop, repeat}
+use Rattle.vps_definition.specs.Words.{u, u-minus1, ue, ue-minus1, inferred, u-if, ue-if, general, general-if, check, ruled, nothing, when, aligned, keeps, loop, repeat}
 use Rattle.vps_laws.specs.Inversion.{keeping-accepted, guard-accepted, code-accepted}
 use Rattle.vps_laws.specs.Bind.{run-bound}
 use Rattle.vps_laws.specs.RoundTrip.{Coherent, coherent-bind, skim-run, look-run}
@@ -143,6 +143,11 @@ local-ue-if b v = local-test b local-ue (local-inferred v)
 pub local-check : (b : Bool) (n : ℕ) → Local (check b n)
 unfolding check
 local-check b n = local-test b local-done local-refuse
+
+pub local-ruled : {A : Type 0} {P : List ℕ → A → Type 0} (rule b : Bool) (n : ℕ) {m : Syntax A} → Coh P m → Coh P (ruled rule b n m)
+unfolding ruled
+local-ruled true b n M = local-bind (local-check b n) (λ c. M)
+local-ruled false b n M = M
 
 pub local-nothing : Local nothing
 unfolding nothing

@@ -11,11 +11,12 @@ use Rattle.bits.specs.Bits.{fieldAt, bitsOf, toBoundary}
 use Rattle.bits.specs.Code.{Taken, codeAt, codeOf}
 use Rattle.bits.specs.Code.Taken.{taken}
 use Rattle.bits.specs.Code as Code
-use Rattle.vps_definition.specs.Syntax.{Syntax, Token, Outcome, keeping, run, Written, putting, emit}
+use Rattle.vps_definition.specs.Syntax.{Syntax, _>>=_, Token, Outcome, keeping, run, Written, putting, emit}
 use Rattle.vps_definition.specs.Syntax.Syntax.{field, code, late, keep, mark, align, test, refuse, done}
 use Rattle.vps_definition.specs.Syntax.Token.{number, section}
 use Rattle.vps_definition.specs.Syntax.Outcome.{accepted, refused}
 use Rattle.vps_definition.specs.Syntax.Written.{wrote, bad}
+use Rattle.vps_definition.specs.Words.{check, ruled}
 
 -- ── What is accepted ──────────────────────────────────────────────────
 pub not-accepted : {A B : Type 0} {n next : ℕ} {a : A} {t l : List Token} → refused n l ≡ accepted a t next → B
@@ -37,6 +38,14 @@ pub guard-accepted : {A : Type 0} {a : A} {t : List Token} {next : ℕ} (c : Boo
     → elim c as (λ d. Outcome A) [ true ↦ R | false ↦ refused n [] ] ≡ accepted a t next → (c ≡ true) × (R ≡ accepted a t next)
 guard-accepted true n R e = (refl, e)
 guard-accepted false n R e = not-accepted e
+
+-- behind a rule's check: so without it
+pub ruled-accepted : {A : Type 0} {a : A} {t : List Token} {next : ℕ} (rule b : Bool) (n : ℕ) (m : Syntax A) (s : List ℕ) (at : ℕ)
+    → run (ruled rule b n m) s at ≡ accepted a t next → run m s at ≡ accepted a t next
+unfolding ruled check _>>=_ run
+ruled-accepted true true n m s at e = e
+ruled-accepted true false n m s at e = not-accepted e
+ruled-accepted false b n m s at e = e
 
 -- behind a code: so the code was taken
 pub record Coded {A : Type 0} (c : Taken) (F : ℕ → ℕ → Outcome A) (a : A) (t : List Token) (next : ℕ) : Type 0 where

@@ -13,8 +13,8 @@ use Rattle.vps_definition.specs.Syntax.{Syntax, _>>=_, Token, numbers, keeping,
 use Rattle.vps_definition.specs.Syntax.Syntax.{field, code, late, keep, mark, align, test, refuse, done}
 use Rattle.vps_definition.specs.Syntax.Token.{number, section}
 use Rattle.vps_definition.specs.Syntax.Outcome.{accepted}
-use Rattle.vps_definition.specs.Words.{u, u-minus1, ue, ue-minus1, inferred, u-if, ue-if, general, general-if, check, nothing, when, aligned, keeps, loop, repeat}
-use Rattle.vps_laws.specs.Inversion.{not-accepted, keeping-accepted, guard-accepted, code-accepted}
+use Rattle.vps_definition.specs.Words.{u, u-minus1, ue, ue-minus1, inferred, u-if, ue-if, general, general-if, check, ruled, nothing, when, aligned, keeps, loop, repeat}
+use Rattle.vps_laws.specs.Inversion.{not-accepted, keeping-accepted, guard-accepted, ruled-accepted, code-accepted}
 use Rattle.vps_laws.specs.Bind.{run-bound}
 use Rattle.vps_laws.specs.Reading.{Each, each-join}
 
@@ -176,6 +176,9 @@ keeps-general-if b i w v = keeps-test b (λ e. keeps-so (keeps-general i w) (λ 
 pub keeps-check : (b : Bool) (n : ℕ) → Keeps (λ a t. (t ≡ []) × (b ≡ true)) (check b n)
 unfolding check
 keeps-check b n = keeps-test b (λ e. keeps-done (refl, e)) (λ e. keeps-refuse)
+
+pub keeps-ruled : {A : Type 0} {Q : A → List Token → Type 0} (rule b : Bool) (n : ℕ) {m : Syntax A} → Keeps Q m → Keeps Q (ruled rule b n m)
+keeps-ruled rule b n {m} M = record { holds = λ s at e. M .holds s at (ruled-accepted rule b n m s at e) }
 
 pub keeps-nothing : {Q : Unit {0} → List Token → Type 0} → Q tt [] → Keeps Q nothing
 unfolding nothing

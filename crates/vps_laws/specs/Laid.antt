@@ -9,6 +9,7 @@ use borrow.Author.Tests.{eqb-true, eqb-false}
 use lib.Dec.{eqb, lit<}
 use lib.ListN.{length, getD, take, drop, length-append, List·getD-append}
 use lib.Seq.{take-at, drop-at}
+use Rattle.vps_definition.specs.Rules.{Rules}
 use Rattle.vps_definition.specs.Syntax.{Token, numbers, run}
 use Rattle.vps_definition.specs.Syntax.Syntax.{mark, test, done}
 use Rattle.vps_definition.specs.Syntax.Token.{number, section}
@@ -18,7 +19,7 @@ use Rattle.vps_definition.specs.DpbParameters.{dpb-section}
 use Rattle.vps_definition.specs.TimingHrd.{timing-section}
 use Rattle.vps_definition.specs.OutputLayerSets.{totalNumOlss, numMultiLayerOlss}
 use Rattle.vps_definition.specs.OutputLayerSets.Sets.{each-layer, up-to}
-use Rattle.vps_definition.specs.Vps.{Header, SetsRead, rows-section, no-rows, sets-section, multi-layer-sections, single-layer-sections, buffer-sections, generalOf, vps}
+use Rattle.vps_definition.specs.Vps.{Header, SetsRead, rows-section, no-rows, sets-section, multi-layer-sections, single-layer-sections, buffer-sections, generalOf, vpsUnder}
 use Rattle.vps_definition.specs.Record.{recordOf, startOf}
 use Rattle.vps_definition.specs.Layout.{fromSection, idsFrom, layerIds, ptlCount, setCount, ptlIndices, dpbCount, behindSlots, dpbEntries, multiCount, fifths, dpbIndices, timingFlag, timingCount, timingIndices}
 use Rattle.vps_laws.specs.Keeps.{Keeps, Below, numbers-append, keeps-so, keeps-both, keeps-bind, keeps-test, keeps-mark, keeps-keep, keeps-done, keeps-u, keeps-check, keeps-general-if, keeps-nothing}
@@ -327,7 +328,7 @@ seven-of : (t l a p o b r d m : List Token) → t ≡ section ∷ (l ++ (a ++ (s
     → t ≡ section ∷ (l ++ (section ∷ (r ++ (section ∷ (p ++ (section ∷ (o ++ (section ∷ (d ++ (section ∷ (m ++ (section ∷ []))))))))))))
 seven-of t l a p o b r d m e f g = simp (e, f, g, append-assoc)
 
-module _ {s g : List ℕ} {t : List Token} {next : ℕ} (S : Sections s g t next) where
+module _ {rules : Rules} {s g : List ℕ} {t : List Token} {next : ℕ} (S : Sections rules s g t next) where
   pub sets-marked : Marked (S .sets-kept)
   sets-marked = keeps-sets (S .h) .holds s (S .at₂) (S .sets-read)
 
@@ -350,9 +351,9 @@ module _ {s g : List ℕ} {t : List Token} {next : ℕ} (S : Sections s g t next
     plain-m = buffers-marked .plain-timing;
   }
 
-pub record-sound : (s g : List ℕ) (t : List Token) (next : ℕ) (e : List ℕ) → run vps s 0 ≡ accepted g t next → Sound (recordOf g t e)
-record-sound s g t next e R =
-    let S = sections s g t next R in
+pub record-sound : (rules : Rules) (s g : List ℕ) (t : List Token) (next : ℕ) (e : List ℕ) → run (vpsUnder rules) s 0 ≡ accepted g t next → Sound (recordOf g t e)
+record-sound rules s g t next e R =
+    let S = sections rules s g t next R in
     let B = buffers-marked S in
     let P = keeps-ptls (S .h) _ .holds s (S .at₃) (S .ptls-read) in
     let O = keeps-ols (S .ptls) _ .holds s (S .at₄) (S .ols-read) in
@@ -360,5 +361,5 @@ record-sound s g t next e R =
     (ap (λ (l : List ℕ). getD l 0 0) (S .general-is)) (ap (λ (l : List ℕ). getD l 7 0) (S .general-is)) (layers-rise (S .h) .holds s (S .at₁) (S .layers-read)) (P .1) (O .1) (O .2) (B .buffers) (B .timed) (B .inside)
 
 -- a table that is read has seven marks
-pub record-seven : (s g : List ℕ) (t : List Token) (next : ℕ) → run vps s 0 ≡ accepted g t next → marks t ≡ 7
-record-seven s g t next R = seven-marks (seven-parts (sections s g t next R)) .seven
+pub record-seven : (rules : Rules) (s g : List ℕ) (t : List Token) (next : ℕ) → run (vpsUnder rules) s 0 ≡ accepted g t next → marks t ≡ 7
+record-seven rules s g t next R = seven-marks (seven-parts (sections rules s g t next R)) .seven

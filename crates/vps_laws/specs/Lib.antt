@@ -26,5 +26,6 @@ pub mod ByNumber
 pub mod Views
 pub mod Promises
 pub mod Bound
+pub mod Compared
 pub mod Order
 pub mod Lookup

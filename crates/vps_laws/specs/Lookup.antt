@@ -8,9 +8,10 @@ use borrow.Author.Tests.{leb-true, le-leb, lt-leb, lt-ltb, ltb-true, ltb-false}
 use lib.Dec.{leb, ltb, lit<}
 use lib.ListN.{length, getD, drop}
 use Rattle.stuffing.specs.Stuffing.{unstuff}
+use Rattle.vps_definition.specs.Rules.{Rules, today}
 use Rattle.vps_definition.specs.Syntax.{Token, numbers, starts}
 use Rattle.vps_definition.specs.Record.{recordOf, startOf, endOf}
-use Rattle.vps_definition.specs.Writing.{wellFormed}
+use Rattle.vps_definition.specs.Writing.{wellFormedUnder, wellFormed}
 use Rattle.vps_definition.specs.Lookup.{sectionStart, sectionEnd}
 use Rattle.vps_laws.specs.OutputLayerSets.{and-both}
 use Rattle.vps_laws.specs.Units.{rbsp-parts, written-read}
@@ -62,13 +63,13 @@ module _ (g : List ℕ) (t : List Token) (e : List ℕ) (nine : length g ≡ 9) 
           let i : k ≡ 7 = omega (arith, ltb-false k 7 g′, h) in
           rw i (record { rises = unfold endOf in omega (arith, trailer-start); ends = unfold endOf in omega arith })
 
-pub section-inside : (r : List ℕ) → wellFormed r ≡ true → (k : ℕ) → k ≤ 8 → Inside r (startOf r k) (endOf r k)
-section-inside r w k h =
-    let W = well-formed-written r w in
+pub section-inside : (rules : Rules) (r : List ℕ) → wellFormedUnder rules r ≡ true → (k : ℕ) → k ≤ 8 → Inside r (startOf r k) (endOf r k)
+section-inside rules r w k h =
+    let W = well-formed-written rules r w in
     let u : List ℕ = W .0 in
-    let P = rbsp-parts (rbspIn u) r _ (accepted-reads u r _ (written-read r u (W .1))) in
-    let n = general-read (rbspIn u) (P .general) (P .tokens) (P .behind) (P .reads) .nine in
-    let m = record-seven (rbspIn u) (P .general) (P .tokens) (P .behind) (P .reads) in
+    let P = rbsp-parts rules (rbspIn u) r _ (accepted-reads rules u r _ (written-read rules r u (W .1))) in
+    let n = general-read rules (rbspIn u) (P .general) (P .tokens) (P .behind) (P .reads) .nine in
+    let m = record-seven rules (rbspIn u) (P .general) (P .tokens) (P .behind) (P .reads) in
     rw (P .is) (parts-inside (P .general) (P .tokens) _ n m k h)
 
 -- ── Lookup, by its cases ──────────────────────────────────────────────
@@ -101,5 +102,5 @@ module _ (r : List ℕ) (k : ℕ) where
   found-inside = go (leb k 8 && wellFormed r) refl
     where
       go : (b : Bool) → leb k 8 && wellFormed r ≡ b → Inside r (sectionStart r k) (sectionEnd r k)
-      go true e = let B = and-both (leb k 8) (wellFormed r) e in rw e (section-inside r (B .1) k (leb-true k 8 (B .0)))
+      go true e = let B = and-both (leb k 8) (wellFormed r) e in rw e (section-inside today r (B .1) k (leb-true k 8 (B .0)))
       go false e = rw e (record { rises = omega arith; ends = omega arith })

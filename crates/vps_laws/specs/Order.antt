@@ -9,11 +9,12 @@ use borrow.Author.Tests.{eq-eqb, ne-eqb, le-leb, lt-leb}
 use lib.ListN.{length, getD, drop}
 use Rattle.refusals.specs.Number.{unit-too-short, not-a-vps, rbsp-too-long}
 use Rattle.stuffing.specs.Stuffing.{unstuff}
+use Rattle.vps_definition.specs.Rules.{Rules}
 use Rattle.vps_definition.specs.Syntax.{Syntax, _>>=_, Token, Outcome, run}
 use Rattle.vps_definition.specs.Syntax.Outcome.{accepted, refused}
 use Rattle.vps_definition.specs.Words.{check, loop}
-use Rattle.vps_definition.specs.Vps.{vps}
-use Rattle.vps_definition.specs.Reading.{closed, readRbsp, most-rbsp-bytes, readLimited, vps-nut, readUnit}
+use Rattle.vps_definition.specs.Vps.{vpsUnder}
+use Rattle.vps_definition.specs.Reading.{closed, readRbspUnder, most-rbsp-bytes, limitedBy, vps-nut, unitBy, readUnitUnder}
 use Rattle.vps_definition.specs.Reading.Reading.{refuses}
 use Rattle.vps_laws.specs.Bind.{after, thenRead, run-bind, run-bound}
 
@@ -58,24 +59,24 @@ turn-refusal {y = y} {n = n} {middle = middle} {t = t} {u = u} f (suc j) (suc tu
 
 -- ── A unit ────────────────────────────────────────────────────────────
 -- refusals 1, 2 and 3 go by the header and the length alone; any other unit is read as its RBSP
-pub record HeaderFirst (u : List ℕ) : Type 0 where
-  pub short : length u < 2 → readUnit u ≡ refuses unit-too-short
-  pub other : 2 ≤ length u → (getD u 1 0 / 8 ≡ vps-nut → ⊥) → readUnit u ≡ refuses not-a-vps
-  pub long : 2 ≤ length u → getD u 1 0 / 8 ≡ vps-nut → most-rbsp-bytes < length (unstuff (drop 2 u)) → readUnit u ≡ refuses rbsp-too-long
-  pub within : 2 ≤ length u → getD u 1 0 / 8 ≡ vps-nut → length (unstuff (drop 2 u)) ≤ most-rbsp-bytes → readUnit u ≡ readRbsp (unstuff (drop 2 u))
+pub record HeaderFirst (rules : Rules) (u : List ℕ) : Type 0 where
+  pub short : length u < 2 → readUnitUnder rules u ≡ refuses unit-too-short
+  pub other : 2 ≤ length u → (getD u 1 0 / 8 ≡ vps-nut → ⊥) → readUnitUnder rules u ≡ refuses not-a-vps
+  pub long : 2 ≤ length u → getD u 1 0 / 8 ≡ vps-nut → most-rbsp-bytes < length (unstuff (drop 2 u)) → readUnitUnder rules u ≡ refuses rbsp-too-long
+  pub within : 2 ≤ length u → getD u 1 0 / 8 ≡ vps-nut → length (unstuff (drop 2 u)) ≤ most-rbsp-bytes → readUnitUnder rules u ≡ readRbspUnder rules (unstuff (drop 2 u))
 
-pub header-first : (u : List ℕ) → HeaderFirst u
-unfolding readUnit readLimited
-header-first [] = record { short = λ l. refl; other = λ l h. absurd (omega arith); long = λ l h k. absurd (omega arith); within = λ l h k. absurd (omega arith) }
-header-first (a ∷ []) = record { short = λ l. refl; other = λ l h. absurd (omega arith); long = λ l h k. absurd (omega arith); within = λ l h k. absurd (omega arith) }
-header-first (a ∷ b ∷ s) = record {
+pub header-first : (rules : Rules) (u : List ℕ) → HeaderFirst rules u
+unfolding unitBy limitedBy
+header-first rules [] = record { short = λ l. refl; other = λ l h. absurd (omega arith); long = λ l h k. absurd (omega arith); within = λ l h k. absurd (omega arith) }
+header-first rules (a ∷ []) = record { short = λ l. refl; other = λ l h. absurd (omega arith); long = λ l h k. absurd (omega arith); within = λ l h k. absurd (omega arith) }
+header-first rules (a ∷ b ∷ s) = record {
   short = λ l. absurd (omega arith);
-  other = λ l h. rw (ne-eqb (b / 8) vps-nut h, readUnit) refl;
-  long = λ l h k. rw (eq-eqb (b / 8) vps-nut h, readUnit) (rw (lt-leb (length (unstuff s)) most-rbsp-bytes k, readLimited) refl);
-  within = λ l h k. rw (eq-eqb (b / 8) vps-nut h, readUnit) (rw (le-leb (length (unstuff s)) most-rbsp-bytes k, readLimited) refl);
+  other = λ l h. rw (ne-eqb (b / 8) vps-nut h, unitBy) refl;
+  long = λ l h k. rw (eq-eqb (b / 8) vps-nut h, unitBy) (rw (lt-leb (length (unstuff s)) most-rbsp-bytes k, limitedBy) refl);
+  within = λ l h k. rw (eq-eqb (b / 8) vps-nut h, unitBy) (rw (le-leb (length (unstuff s)) most-rbsp-bytes k, limitedBy) refl);
 }
 
 -- the table's refusal stands before the extension and the trailing bits
-pub table-before-end : {n : ℕ} {t : List Token} (s : List ℕ) → run vps s 0 ≡ refused n t → readRbsp s ≡ refuses n
-unfolding readRbsp closed
-table-before-end s e = ap (closed s) e
+pub table-before-end : (rules : Rules) {n : ℕ} {t : List Token} (s : List ℕ) → run (vpsUnder rules) s 0 ≡ refused n t → readRbspUnder rules s ≡ refuses n
+unfolding readRbspUnder closed
+table-before-end rules s e = ap (closed s) e

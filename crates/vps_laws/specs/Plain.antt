@@ -4,15 +4,16 @@ use mathlib.Core.Path.{_≡_, refl, ap, _∙_}
 use mathlib.Core.List.{List, [], _∷_, _++_}
 use mathlib.Core.Bool.{Bool}
 use native.Mathlib.Omega.{arith}
+use Rattle.vps_definition.specs.Rules.{Rules}
 use Rattle.vps_definition.specs.Syntax.{Syntax, _>>=_, Token}
 use Rattle.vps_definition.specs.Syntax.Syntax.{field, code, late, keep, align, test, refuse, done}
-use Rattle.vps_definition.specs.Words.{u, u-minus1, ue, ue-minus1, inferred, u-if, ue-if, general, general-if, check, nothing, when, aligned, keeps, loop, repeat}
+use Rattle.vps_definition.specs.Words.{u, u-minus1, ue, ue-minus1, inferred, u-if, ue-if, general, general-if, check, ruled, nothing, when, aligned, keeps, loop, repeat}
 use Rattle.vps_definition.specs.ProfileTierLevel.{falling, reversed, ahead, constraint-bit, constraints, constraints-if, general-constraints-info, profile-and-tier, sub-profile, sub-profiles, profile-tier-level}
 use Rattle.vps_definition.specs.DpbParameters.{dpb-sublayer, per-sublayer, index, ols-dpb, dpb-section}
 use Rattle.vps_definition.specs.TimingHrd.{Hrd, general-timing-hrd, du-values, schedule, sublayer-hrd, timing-sublayer, timing-section}
 use Rattle.vps_definition.specs.OutputLayerSets.{Sets}
-use Rattle.vps_definition.specs.Vps.{Header, header, direct-reference, dependent-layer, independent-layer, layer, layers-section, output-flag, row, rows-section, no-rows, slot-number-if, ptl-head, ptl-slot, ptl-section, ols-section}
-use Rattle.vps_laws.specs.Keeps.{Keeps, keeps-so, keeps-bind, keeps-field, keeps-code, keeps-late, keeps-keep, keeps-align, keeps-test, keeps-refuse, keeps-done}
+use Rattle.vps_definition.specs.Vps.{Header, headerUnder, direct-reference, dependent-layer, independent-layer, layer, layers-section, output-flag, row, rows-section, no-rows, slot-number-if, ptl-head, ptl-slot, ptl-section, ols-section}
+use Rattle.vps_laws.specs.Keeps.{Keeps, keeps-so, keeps-bind, keeps-field, keeps-code, keeps-late, keeps-keep, keeps-align, keeps-test, keeps-ruled, keeps-refuse, keeps-done}
 use Rattle.vps_laws.specs.Marks.{marks, marks-append}
 
 pub record Plain {A : Type 0} (m : Syntax A) : Type 0 where
@@ -82,6 +83,9 @@ pub plain-check : (b : Bool) (n : ℕ) → Plain (check b n)
 unfolding check
 plain-check b n = search steps
 
+plain-ruled : {A : Type 0} (rule b : Bool) (n : ℕ) {m : Syntax A} → Plain m → Plain (ruled rule b n m)
+plain-ruled rule b n M = record { plain = keeps-ruled rule b n (M .plain) }
+
 pub plain-general : (i w : ℕ) → Plain (general i w)
 unfolding general
 plain-general i w = search steps
@@ -91,9 +95,9 @@ unfolding general-if general
 plain-general-if b i w v = search steps
 
 -- ── The tables ────────────────────────────────────────────────────────
-pub plain-header : Plain header
-unfolding header
-plain-header = search (steps, plain-general, plain-check, plain-general-if) depth 40
+pub plain-header : (rules : Rules) → Plain (headerUnder rules)
+unfolding headerUnder
+plain-header rules = search (steps, plain-general, plain-check, plain-ruled, plain-general-if) depth 40
 
 plain-direct-reference : (present top j : ℕ) (flags : List ℕ) → Plain (direct-reference present top j flags)
 unfolding direct-reference u u-if inferred

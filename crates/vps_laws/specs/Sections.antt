@@ -5,16 +5,17 @@ use mathlib.Core.List.{List, [], _∷_, _++_}
 use mathlib.Core.Bool.{Bool, true, false}
 use native.Mathlib.Omega.{arith}
 use Rattle.bits.specs.Bits.{fieldAt}
+use Rattle.vps_definition.specs.Rules.{Rules}
 use Rattle.vps_definition.specs.Syntax.{Syntax, _>>=_, Token, Outcome, run}
 use Rattle.vps_definition.specs.Syntax.Syntax.{late, mark, test, refuse, done}
 use Rattle.vps_definition.specs.Syntax.Token.{number, section}
 use Rattle.vps_definition.specs.Syntax.Outcome.{accepted, refused}
 use Rattle.vps_definition.specs.Words.{general, general-if, check, nothing}
 use Rattle.vps_definition.specs.OutputLayerSets.{totalNumOlss, numMultiLayerOlss}
-use Rattle.vps_definition.specs.Vps.{Header, Layers, SetsRead, header, layers-section, sets-section, ptl-section, ols-section, buffer-sections, generalOf, vps}
-use Rattle.vps_laws.specs.Inversion.{not-accepted, keeping-accepted}
+use Rattle.vps_definition.specs.Vps.{Header, Layers, SetsRead, headerUnder, layers-section, sets-section, ptl-section, ols-section, buffer-sections, generalOf, vpsUnder}
+use Rattle.vps_laws.specs.Inversion.{not-accepted, keeping-accepted, ruled-accepted}
 use Rattle.vps_laws.specs.Bind.{Bound, run-bound}
-use Rattle.vps_laws.specs.Keeps.{Silent, keeps-so, keeps-bind, keeps-late, keeps-done, keeps-general, keeps-general-if, keeps-check}
+use Rattle.vps_laws.specs.Keeps.{Silent, keeps-so, keeps-bind, keeps-late, keeps-done, keeps-general, keeps-general-if, keeps-check, keeps-ruled}
 
 -- ── The header keeps nothing ──────────────────────────────────────────
 silent-late : {A : Type 0} {w : ℕ} {find : List ℕ → List ℕ → ℕ} {k : ℕ → Syntax A} → ((v : ℕ) → Silent (k v)) → Silent (late w find k)
@@ -35,12 +36,12 @@ silent-general-if b i w v = keeps-so (keeps-general-if b i w v) (λ a t h. h .0)
 silent-check : (b : Bool) (n : ℕ) → Silent (check b n)
 silent-check b n = keeps-so (keeps-check b n) (λ a t h. h .0)
 
-silent-header : Silent header
-unfolding header
-silent-header = search (silent-bind, silent-late, silent-general, silent-general-if, silent-check, silent-done) depth 30
+silent-header : (rules : Rules) → Silent (headerUnder rules)
+unfolding headerUnder
+silent-header rules = search (silent-bind, silent-late, silent-general, silent-general-if, keeps-ruled, silent-check, silent-done) depth 30
 
 -- ── The sections ──────────────────────────────────────────────────────
-pub record Sections (s g : List ℕ) (t : List Token) (next : ℕ) : Type 0 where
+pub record Sections (rules : Rules) (s g : List ℕ) (t : List Token) (next : ℕ) : Type 0 where
   pub h : Header
   pub l : Layers
   pub sets : SetsRead
@@ -59,7 +60,7 @@ pub record Sections (s g : List ℕ) (t : List Token) (next : ℕ) : Type 0 wher
   pub ols-kept : List Token
   pub buffers-kept : List Token
   pub o : Unit {0}
-  pub header-read : run header s 0 ≡ accepted h [] at₁
+  pub header-read : run (headerUnder rules) s 0 ≡ accepted h [] at₁
   pub layers-read : run (layers-section h) s at₁ ≡ accepted l layers-kept at₂
   pub sets-read : run (sets-section h) s at₂ ≡ accepted sets sets-kept at₃
   pub ptls-read : run (ptl-section h (totalNumOlss (h .layers) (sets .sets))) s at₃ ≡ accepted ptls ptls-kept at₄
@@ -90,21 +91,21 @@ joined : (t u₁ v₁ u₂ v₂ u₃ v₃ u₄ v₄ u₅ v₅ u₆ v₆ u₇ v�
     → t ≡ section ∷ (w₂ ++ (u₃ ++ (section ∷ (w₄ ++ (section ∷ (w₅ ++ (u₆ ++ (section ∷ []))))))))
 joined t u₁ v₁ u₂ v₂ u₃ v₃ u₄ v₄ u₅ v₅ u₆ v₆ u₇ v₇ w₂ w₄ w₅ w₇ a b c d e f g h i j k l m n = simp (a, b, c, d, e, f, g, h, i, j, k, l, m, n)
 
-pub sections : (s g : List ℕ) (t : List Token) (next : ℕ) → run vps s 0 ≡ accepted g t next → Sections s g t next
-unfolding vps
-sections s g t next e =
-    in-turn header _ s 0 e λ h u₁ v₁ at₁ r₁ e₁ k₁.
+pub sections : (rules : Rules) (s g : List ℕ) (t : List Token) (next : ℕ) → run (vpsUnder rules) s 0 ≡ accepted g t next → Sections rules s g t next
+unfolding vpsUnder
+sections rules s g t next e =
+    in-turn (headerUnder rules) _ s 0 e λ h u₁ v₁ at₁ r₁ e₁ k₁.
     in-turn (mark (layers-section h)) _ s at₁ e₁ λ l u₂ v₂ at₂ r₂ e₂ k₂.
     in-section (layers-section h) s at₁ r₂ λ w₂ q₂ m₂.
     in-turn (sets-section h) _ s at₂ e₂ λ sets u₃ v₃ at₃ r₃ e₃ k₃.
-    in-turn (mark (ptl-section h (totalNumOlss (h .layers) (sets .sets)))) _ s at₃ e₃ λ ptls u₄ v₄ at₄ r₄ e₄ k₄.
-    in-section (ptl-section h (totalNumOlss (h .layers) (sets .sets))) s at₃ r₄ λ w₄ q₄ m₄.
+    in-turn _ _ s at₃ e₃ λ ptls u₄ v₄ at₄ r₄ e₄ k₄.
+    in-section (ptl-section h (totalNumOlss (h .layers) (sets .sets))) s at₃ (ruled-accepted _ _ _ _ s at₃ r₄) λ w₄ q₄ m₄.
     in-turn (mark (ols-section ptls (totalNumOlss (h .layers) (sets .sets)))) _ s at₄ e₄ λ o u₅ v₅ at₅ r₅ e₅ k₅.
     in-section (ols-section ptls (totalNumOlss (h .layers) (sets .sets))) s at₄ r₅ λ w₅ q₅ m₅.
     in-turn (buffer-sections h (sets .each-layer-flag) (numMultiLayerOlss (h .layers) (l .refs) (sets .sets))) _ s at₅ e₅ λ flag u₆ v₆ at₆ r₆ e₆ k₆.
     in-turn (general 8 1) _ s at₆ e₆ λ ext u₇ v₇ at₇ r₇ e₇ k₇.
     in-section (done (generalOf h sets flag ext)) s at₇ e₇ λ w₇ q₇ m₇.
-    (let n₁ : u₁ ≡ [] = silent-header .holds s 0 r₁ in
+    (let n₁ : u₁ ≡ [] = silent-header rules .holds s 0 r₁ in
     let n₇ : u₇ ≡ [] = silent-general 8 1 .holds s at₆ r₇ in
     let E = ended (generalOf h sets flag ext) g s at₇ w₇ next q₇ in
     record {

@@ -17,14 +17,15 @@ use Rattle.bits.specs.Writing.{trailingBits}
 use Rattle.bits.specs.FieldLaws.{BitsAt, bits-left, bits-right}
 use Rattle.bits.specs.ByteLaws.{AllBits, all-join, all-zeros, pack-bits, pack-length}
 use Rattle.bits.specs.TrailingLaws.{boundary, Trails, trails, trailing-read, trailing-stands, trailing-length}
+use Rattle.vps_definition.specs.Rules.{Rules}
 use Rattle.vps_definition.specs.Syntax.{Token, Outcome, run, Written, emit}
 use Rattle.vps_definition.specs.Syntax.Outcome.{accepted, refused}
 use Rattle.vps_definition.specs.Syntax.Written.{wrote, bad}
-use Rattle.vps_definition.specs.Vps.{vps}
+use Rattle.vps_definition.specs.Vps.{vpsUnder}
 use Rattle.vps_definition.specs.Record.{recordOf}
-use Rattle.vps_definition.specs.Reading.{Reading, bitsAt, extensionBits, ended, closed, readRbsp, most-rbsp-bytes, readLimited, vps-nut, readUnit}
+use Rattle.vps_definition.specs.Reading.{Reading, bitsAt, extensionBits, ended, closed, readRbspUnder, most-rbsp-bytes, limitedBy, vps-nut, unitBy, readUnitUnder}
 use Rattle.vps_definition.specs.Reading.Reading.{accepts, refuses}
-use Rattle.vps_definition.specs.Writing.{same, extensionGood, extensionOf, rbspOf, unitOf, limited, partsGood, finished, writeRecord}
+use Rattle.vps_definition.specs.Writing.{same, extensionGood, extensionOf, rbspOf, unitOf, limited, partsGood, finished, writeRecordUnder}
 use Rattle.vps_laws.specs.OutputLayerSets.{and-both}
 use Rattle.vps_laws.specs.Writing.{emit-run, emit-bits}
 use Rattle.vps_laws.specs.Extension.{bits-at-stand, good-bits, extension-stands}
@@ -38,17 +39,17 @@ guard-accepts true k R e = (refl, e)
 guard-accepts false k R e = not-accepts e
 
 -- an RBSP that is read, part by part
-pub record Parts (s r : List ℕ) (n : ℕ) : Type 0 where
+pub record Parts (rules : Rules) (s r : List ℕ) (n : ℕ) : Type 0 where
   pub general : List ℕ
   pub tokens : List Token
   pub behind : ℕ
-  pub reads : run vps s 0 ≡ accepted general tokens behind
+  pub reads : run (vpsUnder rules) s 0 ≡ accepted general tokens behind
   pub is : r ≡ recordOf general tokens (bitsAt s behind (extensionBits (getD general 8 0) s behind))
   pub ends : Trails s (behind + extensionBits (getD general 8 0) s behind) n
 
-pub rbsp-parts : (s r : List ℕ) (n : ℕ) → readRbsp s ≡ accepts r n → Parts s r n
-unfolding readRbsp closed
-rbsp-parts s r n e = go (run vps s 0) refl e
+pub rbsp-parts : (rules : Rules) (s r : List ℕ) (n : ℕ) → readRbspUnder rules s ≡ accepts r n → Parts rules s r n
+unfolding readRbspUnder closed
+rbsp-parts rules s r n e = go (run (vpsUnder rules) s 0) refl e
   where
     end : (x : List ℕ) (at : ℕ) (A : Answer ℕ) → trailingAt s at ≡ A → ended x A ≡ accepts r n → (r ≡ x) × Trails s at n
     end x at (success m) f g =
@@ -58,41 +59,41 @@ rbsp-parts s r n e = go (run vps s 0) refl e
         (sym j, trails s at n (f ∙ ap {B = Answer ℕ} success i))
     end x at (refusal k) f g = unfold ended in not-accepts g
 
-    go : (R : Outcome (List ℕ)) → run vps s 0 ≡ R → closed s R ≡ accepts r n → Parts s r n
+    go : (R : Outcome (List ℕ)) → run (vpsUnder rules) s 0 ≡ R → closed s R ≡ accepts r n → Parts rules s r n
     go (refused k t) f g = not-accepts g
     go (accepted general t at) f g =
         let E = end (recordOf general t (bitsAt s at (extensionBits (getD general 8 0) s at))) (at + extensionBits (getD general 8 0) s at) _ refl g in
         record { general = general; tokens = t; behind = at; reads = f; is = E .0; ends = E .1 }
 
-pub parts-rbsp : (s r : List ℕ) (n : ℕ) → Parts s r n → readRbsp s ≡ accepts r n
-unfolding readRbsp closed ended
-parts-rbsp s r n P =
+pub parts-rbsp : (rules : Rules) (s r : List ℕ) (n : ℕ) → Parts rules s r n → readRbspUnder rules s ≡ accepts r n
+unfolding readRbspUnder closed ended
+parts-rbsp rules s r n P =
     ap (closed s) (P .reads)
     ∙ ap (ended (recordOf (P .general) (P .tokens) (bitsAt s (P .behind) (extensionBits (getD (P .general) 8 0) s (P .behind))))) (trailing-read s _ n (P .ends))
     ∙ ap (λ (l : List ℕ). accepts l n) (sym (P .is))
 
 -- a unit: two bytes of header, and an RBSP within the limit
-pub record Accepted (u r : List ℕ) (n : ℕ) : Type 0 where
+pub record Accepted (rules : Rules) (u r : List ℕ) (n : ℕ) : Type 0 where
   pub first : ℕ
   pub second : ℕ
   pub payload : List ℕ
   pub bytes : u ≡ first ∷ second ∷ payload
   pub type : second / 8 ≡ vps-nut
   pub short : length (unstuff payload) ≤ most-rbsp-bytes
-  pub reads : readRbsp (unstuff payload) ≡ accepts r n
+  pub reads : readRbspUnder rules (unstuff payload) ≡ accepts r n
 
-pub unit-accepted : (u r : List ℕ) (n : ℕ) → readUnit u ≡ accepts r n → Accepted u r n
-unfolding readUnit readLimited
-unit-accepted [] r n e = not-accepts e
-unit-accepted (a ∷ []) r n e = not-accepts e
-unit-accepted (a ∷ b ∷ s) r n e =
+pub unit-accepted : (rules : Rules) (u r : List ℕ) (n : ℕ) → readUnitUnder rules u ≡ accepts r n → Accepted rules u r n
+unfolding unitBy limitedBy
+unit-accepted rules [] r n e = not-accepts e
+unit-accepted rules (a ∷ []) r n e = not-accepts e
+unit-accepted rules (a ∷ b ∷ s) r n e =
     let c = guard-accepts (eqb (b / 8) vps-nut) _ _ e in
     let d = guard-accepts (leb (length (unstuff s)) most-rbsp-bytes) _ _ (c .1) in
     record { first = a; second = b; payload = s; bytes = refl; type = eqb-true (b / 8) vps-nut (c .0); short = leb-true (length (unstuff s)) most-rbsp-bytes (d .0); reads = d .1 }
 
-pub accepted-unit : (a b : ℕ) (s r : List ℕ) (n : ℕ) → b / 8 ≡ vps-nut → length (unstuff s) ≤ most-rbsp-bytes → readRbsp (unstuff s) ≡ accepts r n → readUnit (a ∷ b ∷ s) ≡ accepts r n
-unfolding readUnit readLimited
-accepted-unit a b s r n h l e = rw (eq-eqb (b / 8) vps-nut h, readUnit) (rw (le-leb (length (unstuff s)) most-rbsp-bytes l, readLimited) e)
+pub accepted-unit : (rules : Rules) (a b : ℕ) (s r : List ℕ) (n : ℕ) → b / 8 ≡ vps-nut → length (unstuff s) ≤ most-rbsp-bytes → readRbspUnder rules (unstuff s) ≡ accepts r n → readUnitUnder rules (a ∷ b ∷ s) ≡ accepts r n
+unfolding unitBy limitedBy
+accepted-unit rules a b s r n h l e = rw (eq-eqb (b / 8) vps-nut h, unitBy) (rw (le-leb (length (unstuff s)) most-rbsp-bytes l, limitedBy) e)
 
 -- ── What is written reads back ────────────────────────────────────────
 pub same-true : (x y : List ℕ) → same x y ≡ true → x ≡ y
@@ -131,10 +132,10 @@ packed b e B E =
     record { stands = pack-bits c [] A (ap (λ (n : ℕ). n % 8) (whole-bytes b e) ∙ boundary (d + 1)) 0 refl; size = rbsp-size b e }
 
 -- an RBSP of the table's bits and the extension's is read as their record
-read-packed : (general : List ℕ) (t : List Token) (b e : List ℕ) → AllBits b → extensionGood (getD general 8 0) e ≡ true
-    → ((s : List ℕ) → BitsAt s 0 b → 0 + length b ≤ 8 * length s → run vps s 0 ≡ accepted general t (0 + length b))
-    → readRbsp (rbspOf b e) ≡ accepts (recordOf general t e) (8 * length (rbspOf b e))
-read-packed general t b e B G R =
+read-packed : (rules : Rules) (general : List ℕ) (t : List Token) (b e : List ℕ) → AllBits b → extensionGood (getD general 8 0) e ≡ true
+    → ((s : List ℕ) → BitsAt s 0 b → 0 + length b ≤ 8 * length s → run (vpsUnder rules) s 0 ≡ accepted general t (0 + length b))
+    → readRbspUnder rules (rbspOf b e) ≡ accepts (recordOf general t e) (8 * length (rbspOf b e))
+read-packed rules general t b e B G R =
     let E : AllBits e = good-bits (getD general 8 0) e G in
     let P = packed b e B E in
     let s : List ℕ = rbspOf b e in
@@ -155,7 +156,7 @@ read-packed general t b e B G R =
     let q : p + length e ≡ d = omega arith in
     let H₄ : BitsAt s d z = subst (λ (n : ℕ). BitsAt s n z) q (bits-right s p e z H₃) in
     let T : Trails s d (d + 1 + k) = trailing-stands s d (omega arith) H₄ in
-    parts-rbsp s (recordOf general t e) (8 * length s)
+    parts-rbsp rules s (recordOf general t e) (8 * length s)
     (record {
       general = general;
       tokens = t;
@@ -170,11 +171,11 @@ payload-of : (rbsp : List ℕ) → unstuff (drop 2 (unitOf rbsp)) ≡ rbsp
 unfolding unitOf
 payload-of rbsp = unstuff-stuff rbsp
 
-pub unit-reads : (rbsp r : List ℕ) (n : ℕ) → length rbsp ≤ most-rbsp-bytes → readRbsp rbsp ≡ accepts r n → readUnit (unitOf rbsp) ≡ accepts r n
+pub unit-reads : (rules : Rules) (rbsp r : List ℕ) (n : ℕ) → length rbsp ≤ most-rbsp-bytes → readRbspUnder rules rbsp ≡ accepts r n → readUnitUnder rules (unitOf rbsp) ≡ accepts r n
 unfolding unitOf
-unit-reads rbsp r n l e =
+unit-reads rules rbsp r n l e =
     let f : unstuff (stuff rbsp) ≡ rbsp = unstuff-stuff rbsp in
-    accepted-unit 0 113 (stuff rbsp) r n refl (rw f l) (rw f e)
+    accepted-unit rules 0 113 (stuff rbsp) r n refl (rw f l) (rw f e)
 
 -- ── What is written ───────────────────────────────────────────────────
 not-success : {A : Type 0} {n : ℕ} {u : List ℕ} → refusal n ≡ success u → A
@@ -185,22 +186,22 @@ guard-success true n A e = (refl, e)
 guard-success false n A e = not-success e
 
 -- a record that is written, part by part
-pub record Made (r u : List ℕ) : Type 0 where
+pub record Made (rules : Rules) (r u : List ℕ) : Type 0 where
   pub general : List ℕ
   pub tokens : List Token
   pub rest : List ℕ
   pub bits : List ℕ
-  pub emits : emit vps r (drop 9 r) 0 ≡ wrote general tokens rest bits
+  pub emits : emit (vpsUnder rules) r (drop 9 r) 0 ≡ wrote general tokens rest bits
   pub is : recordOf general tokens (extensionOf rest) ≡ r
   pub extension : extensionGood (getD general 8 0) (extensionOf rest) ≡ true
   pub short : length (rbspOf bits (extensionOf rest)) ≤ most-rbsp-bytes
   pub unit : u ≡ unitOf (rbspOf bits (extensionOf rest))
 
-pub written-made : (r u : List ℕ) → writeRecord r ≡ success u → Made r u
-unfolding writeRecord finished limited partsGood
-written-made r u e = go (emit vps r (drop 9 r) 0) refl e
+pub written-made : (rules : Rules) (r u : List ℕ) → writeRecordUnder rules r ≡ success u → Made rules r u
+unfolding writeRecordUnder finished limited partsGood
+written-made rules r u e = go (emit (vpsUnder rules) r (drop 9 r) 0) refl e
   where
-    go : (W : Written (List ℕ)) → emit vps r (drop 9 r) 0 ≡ W → finished r W ≡ success u → Made r u
+    go : (W : Written (List ℕ)) → emit (vpsUnder rules) r (drop 9 r) 0 ≡ W → finished r W ≡ success u → Made rules r u
     go bad f h = not-success h
     go (wrote general t x b) f h =
         let y : List ℕ = extensionOf x in
@@ -223,18 +224,18 @@ written-made r u e = go (emit vps r (drop 9 r) 0) refl e
         same-bytes e = cc
 
 -- what was written is read as the record it was written from
-pub written-read : (r u : List ℕ) → writeRecord r ≡ success u → readUnit u ≡ accepts r (8 * length (unstuff (drop 2 u)))
-written-read r u e =
-    let M = written-made r u e in
+pub written-read : (rules : Rules) (r u : List ℕ) → writeRecordUnder rules r ≡ success u → readUnitUnder rules u ≡ accepts r (8 * length (unstuff (drop 2 u)))
+written-read rules r u e =
+    let M = written-made rules r u e in
     let y : List ℕ = extensionOf (M .rest) in
     let s : List ℕ = rbspOf (M .bits) y in
-    let R : readRbsp s ≡ accepts r (8 * length s) =
-    read-packed (M .general) (M .tokens) (M .bits) y (emit-bits vps r (drop 9 r) 0 (M .emits)) (M .extension)
-    (λ s H l. emit-run vps r (drop 9 r) 0 (M .emits) s H l)
+    let R : readRbspUnder rules s ≡ accepts r (8 * length s) =
+    read-packed rules (M .general) (M .tokens) (M .bits) y (emit-bits (vpsUnder rules) r (drop 9 r) 0 (M .emits)) (M .extension)
+    (λ s H l. emit-run (vpsUnder rules) r (drop 9 r) 0 (M .emits) s H l)
     ∙ ap (λ (l : List ℕ). accepts l (8 * length s)) (M .is) in
     let z : unstuff (drop 2 u) ≡ s = ap (λ (l : List ℕ). unstuff (drop 2 l)) (M .unit) ∙ payload-of s in
-    ap readUnit (M .unit) ∙ unit-reads s r (8 * length s) (M .short) R ∙ ap (λ (l : List ℕ). accepts r (8 * length l)) (sym z)
+    ap (readUnitUnder rules) (M .unit) ∙ unit-reads rules s r (8 * length s) (M .short) R ∙ ap (λ (l : List ℕ). accepts r (8 * length l)) (sym z)
 
 -- so no two records have the same bytes
-pub written-once : (r r′ u : List ℕ) → writeRecord r ≡ success u → writeRecord r′ ≡ success u → r ≡ r′
-written-once r r′ u e f = let i : accepts r (8 * length (unstuff (drop 2 u))) ≡ accepts r′ (8 * length (unstuff (drop 2 u))) = sym (written-read r u e) ∙ written-read r′ u f in cc
+pub written-once : (rules : Rules) (r r′ u : List ℕ) → writeRecordUnder rules r ≡ success u → writeRecordUnder rules r′ ≡ success u → r ≡ r′
+written-once rules r r′ u e f = let i : accepts r (8 * length (unstuff (drop 2 u))) ≡ accepts r′ (8 * length (unstuff (drop 2 u))) = sym (written-read rules r u e) ∙ written-read rules r′ u f in cc

@@ -8,17 +8,18 @@ use lib.Dec.{eqb, lit<}
 use lib.ListN.{length, getD, take, drop, length-append}
 use lib.Seq.{drop-at}
 use Rattle.refusals.specs.Number.{timing-index}
+use Rattle.vps_definition.specs.Rules.{Rules}
 use Rattle.vps_definition.specs.Syntax.{Token, numbers, run, look}
 use Rattle.vps_definition.specs.Syntax.Syntax.{late, mark, test, done}
 use Rattle.vps_definition.specs.Syntax.Token.{section}
 use Rattle.vps_definition.specs.Syntax.Outcome.{accepted}
 use Rattle.vps_definition.specs.OutputLayerSets.{Sets, totalNumOlss, numMultiLayerOlss}
 use Rattle.vps_definition.specs.OutputLayerSets.Sets.{each-layer, up-to}
-use Rattle.vps_definition.specs.Vps.{Header, Layers, SetsRead, header, layers-section, rows-section, no-rows, sets-section, ptl-section, generalOf, vps}
+use Rattle.vps_definition.specs.Vps.{Header, Layers, SetsRead, headerUnder, layers-section, rows-section, no-rows, sets-section, ptl-section, generalOf}
 use Rattle.vps_definition.specs.Record.{recordOf, startOf}
-use Rattle.vps_definition.specs.Reading.{bitsAt, extensionBits, readUnit}
+use Rattle.vps_definition.specs.Reading.{bitsAt, extensionBits, readUnitUnder}
 use Rattle.vps_definition.specs.Reading.Reading.{accepts}
-use Rattle.vps_definition.specs.Writing.{wellFormed}
+use Rattle.vps_definition.specs.Writing.{wellFormedUnder}
 use Rattle.vps_definition.specs.Layout.{fromSection, flagsFrom, setsIn, ptlCount, setCount, multiCount, timingFlag, timingCount, timingIndices}
 use Rattle.vps_definition.specs.Views.{no-layers, no-sets, headerOf, layersOf, setsReadOf, refsOf, setsOf, timingEntry}
 use Rattle.vps_laws.specs.Keeps.{Keeps, Returns, numbers-append, keeps-any, keeps-so, keeps-bind, keeps-test, keeps-late, keeps-mark, keeps-keep, keeps-done, returns-bind}
@@ -27,7 +28,7 @@ use Rattle.vps_laws.specs.Tables.{local-layers-section}
 use Rattle.vps_laws.specs.OutputLayerSets.{multi-each-layer}
 use Rattle.vps_laws.specs.Units.{Parts, rbsp-parts, written-read}
 use Rattle.vps_laws.specs.Sections.{Sections, sections}
-use Rattle.vps_laws.specs.Whole.{HeaderAt, coh-header, SetsAt, coh-sets-section}
+use Rattle.vps_laws.specs.Whole.{HeaderAt, SetsAt, coh-sets-section}
 use Rattle.vps_laws.specs.Accepted.{closing}
 use Rattle.vps_laws.specs.Marks.{marks, start-of}
 use Rattle.vps_laws.specs.Places.{ReadAt, read-keeps}
@@ -54,9 +55,9 @@ sets-each h = returns-bind _ λ e. returns-bind _ λ m. returns-bind _ λ c. kee
     rows e m = keeps-mark (keeps-test (eqb e 0) (λ q. keeps-any (λ s t f. clash q f)) (λ q. keeps-so none (λ s t i f. i)))
 
 -- from one layer to 64
-header-layers : Returns (λ h. (1 ≤ h .layers) × (h .layers ≤ 64)) header
-unfolding header
-header-layers =
+header-layers : (rules : Rules) → Returns (λ h. (1 ≤ h .layers) × (h .layers ≤ 64)) (headerUnder rules)
+unfolding headerUnder
+header-layers rules =
     returns-bind _ λ id. keeps-bind six λ n t l. returns-bind _ λ top. returns-bind _ λ c. returns-bind _ λ d. returns-bind _ λ a.
     keeps-done (omega arith, omega arith)
   where
@@ -74,7 +75,7 @@ entries-multi each n refs sets h = go (eqb each 0) h
 
 -- ── A record that was read ────────────────────────────────────────────
 -- what looking through the record finds is what the sections ended in
-pub record Viewed {s g : List ℕ} {t : List Token} {next : ℕ} (r : List ℕ) (S : Sections s g t next) : Type 0 where
+pub record Viewed {rules : Rules} {s g : List ℕ} {t : List Token} {next : ℕ} (r : List ℕ) (S : Sections rules s g t next) : Type 0 where
   pub header-is : headerOf r ≡ S .h
   pub layers-is : layersOf r ≡ S .l
   pub sets-read-is : setsReadOf r ≡ S .sets
@@ -98,7 +99,7 @@ last-of r pre rest z front end many on start multi e s f g l =
     let n : length (pre ++ (on ∷ front)) ≡ start - multi = omega (arith, s, l, length-append pre (on ∷ front), ap length f, length-append rest z, length-append front end, ap length g, length-append many z) in
     ap (drop (start - multi)) q ∙ drop-at (pre ++ (on ∷ front)) end (start - multi) n
 
-module _ {s g : List ℕ} {t : List Token} {next : ℕ} (S : Sections s g t next) (e : List ℕ) where
+module _ {rules : Rules} {s g : List ℕ} {t : List Token} {next : ℕ} (S : Sections rules s g t next) (e : List ℕ) where
   abbrev rec : List ℕ
   rec = recordOf g t e
 
@@ -125,8 +126,8 @@ module _ {s g : List ℕ} {t : List Token} {next : ℕ} (S : Sections s g t next
   sets-at = record { each = number-is 5 (lit< tt); mode = number-is 6 (lit< tt) }
 
   header-seen : headerOf rec ≡ S .h
-  unfolding headerOf numbers
-  header-seen = coh-look coh-header s 0 (S .header-read) _ rec [] header-at
+  unfolding headerOf
+  header-seen = rw (header-at .layers, header-at .id, header-at .top, header-at .default, header-at .all) refl
 
   layers-seen : layersOf rec ≡ S .l
   unfolding layersOf
@@ -249,8 +250,8 @@ module _ {s g : List ℕ} {t : List Token} {next : ℕ} (S : Sections s g t next
     refs-is = ap (λ (l : Layers). l .refs) layers-seen;
     sets-is = ap (λ (x : SetsRead). x .sets) sets-seen;
     count = header-at .layers;
-    some = omega (arith, header-at .layers, header-layers .holds s 0 (S .header-read) .0);
-    few = omega (arith, header-at .layers, header-layers .holds s 0 (S .header-read) .1);
+    some = omega (arith, header-at .layers, header-layers rules .holds s 0 (S .header-read) .0);
+    few = omega (arith, header-at .layers, header-layers rules .holds s 0 (S .header-read) .1);
     total = total-seen;
     multi = multi-seen;
     layers-start = start-first;
@@ -260,20 +261,20 @@ module _ {s g : List ℕ} {t : List Token} {next : ℕ} (S : Sections s g t next
 
 -- ── An accepted record ────────────────────────────────────────────────
 -- the sections that the table read from the unit, and the views of the record are theirs
-pub record Read (u r : List ℕ) : Type 0 where
+pub record Read (rules : Rules) (u r : List ℕ) : Type 0 where
   pub general : List ℕ
   pub tokens : List Token
   pub behind : ℕ
-  pub read : Sections (rbspIn u) general tokens behind
+  pub read : Sections rules (rbspIn u) general tokens behind
   pub seen : Viewed r read
   pub slots : SlotsRead r (ptlCount r) (fromSection r 3) (fromSection r 4)
   pub timing : timingFlag r ≡ 1 → TimingViewed r
   pub indices : timingFlag r ≡ 1 → timingIndices r ≡ take (multiCount r) (timingEntry r (timingCount r))
 
-pub accepted-viewed : (u r : List ℕ) (n : ℕ) → readUnit u ≡ accepts r n → Read u r
-accepted-viewed u r n e =
-    let P = rbsp-parts (rbspIn u) r n (accepted-reads u r n e) in
-    let S = sections (rbspIn u) (P .general) (P .tokens) (P .behind) (P .reads) in
+pub accepted-viewed : (rules : Rules) (u r : List ℕ) (n : ℕ) → readUnitUnder rules u ≡ accepts r n → Read rules u r
+accepted-viewed rules u r n e =
+    let P = rbsp-parts rules (rbspIn u) r n (accepted-reads rules u r n e) in
+    let S = sections rules (rbspIn u) (P .general) (P .tokens) (P .behind) (P .reads) in
     record {
       general = P .general;
       tokens = P .tokens;
@@ -288,12 +289,12 @@ accepted-viewed u r n e =
     }
 
 -- T and M of a record, by its views
-pub page-count : (u r : List ℕ) (n : ℕ) → readUnit u ≡ accepts r n
+pub page-count : (rules : Rules) (u r : List ℕ) (n : ℕ) → readUnitUnder rules u ≡ accepts r n
     → (totalNumOlss (getD r 0 0) (setsOf r) ≡ setCount r) × (numMultiLayerOlss (getD r 0 0) (refsOf r) (setsOf r) ≡ multiCount r)
-page-count u r n e =
-    let W = accepted-viewed u r n e .seen in
+page-count rules u r n e =
+    let W = accepted-viewed rules u r n e .seen in
     (rw (W .count, W .sets-is, W .total) refl, rw (W .count, W .sets-is, W .refs-is, W .multi) refl)
 
 -- so of every well-formed record
-pub well-formed-viewed : (r : List ℕ) → wellFormed r ≡ true → (u : List ℕ) × Read u r
-well-formed-viewed r w = let W = well-formed-written r w in (W .0, accepted-viewed (W .0) r _ (written-read r (W .0) (W .1)))
+pub well-formed-viewed : (rules : Rules) (r : List ℕ) → wellFormedUnder rules r ≡ true → (u : List ℕ) × Read rules u r
+well-formed-viewed rules r w = let W = well-formed-written rules r w in (W .0, accepted-viewed rules (W .0) r _ (written-read rules r (W .0) (W .1)))

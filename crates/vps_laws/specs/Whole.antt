@@ -6,11 +6,12 @@ use mathlib.Core.Bool.{Bool}
 use native.Mathlib.Omega.{arith}
 use lib.Dec.{eqb, lit<}
 use lib.ListN.{getD}
+use Rattle.vps_definition.specs.Rules.{Rules}
 use Rattle.vps_definition.specs.Syntax.Syntax.{mark, done}
 use Rattle.vps_definition.specs.DpbParameters.{dpb-section}
-use Rattle.vps_definition.specs.Vps.{Header, SetsRead, header, sets-section, multi-layer-sections, single-layer-sections, buffer-sections, generalOf, vps}
+use Rattle.vps_definition.specs.Vps.{Header, SetsRead, headerUnder, sets-section, multi-layer-sections, single-layer-sections, buffer-sections, generalOf, vpsUnder}
 use Rattle.vps_laws.specs.Keeps.{Returns, keeps-done, keeps-mark, returns-bind}
-use Rattle.vps_laws.specs.Coherence.{Coh, words, coh-bind, local-bind, local-done, local-mark, local-test, local-check, local-u, local-ue-minus1, local-inferred, local-when, local-repeat, local-loop, coh-late, Stands, coh-general, coh-general-if}
+use Rattle.vps_laws.specs.Coherence.{Coh, words, coh-bind, local-bind, local-done, local-mark, local-test, local-check, local-ruled, local-u, local-ue-minus1, local-inferred, local-when, local-repeat, local-loop, coh-late, Stands, coh-general, coh-general-if}
 use Rattle.vps_laws.specs.Tables.{local-dpb-sublayer, local-per-sublayer, local-ols-dpb, local-ols-section, local-timing-section, local-layers-section, local-rows-section, local-no-rows}
 use Rattle.vps_laws.specs.Heads.{local-ptl-section}
 
@@ -26,13 +27,13 @@ pub record HeaderAt (r : List ℕ) (h : Header) : Type 0 where
   pub default : getD r 3 0 ≡ h .default-max-tid-flag
   pub all : getD r 4 0 ≡ h .all-independent-flag
 
-pub coh-header : Coh HeaderAt header
-unfolding header
-coh-header =
+coh-header : (rules : Rules) → Coh HeaderAt (headerUnder rules)
+unfolding headerUnder
+coh-header rules =
     coh-bind (Stands 1) (coh-general 1 4) (λ id. returns-bind _ λ n. returns-bind _ λ top. returns-bind _ λ c. returns-bind _ λ d. returns-bind _ λ a. keeps-done (λ r h. h .id)) λ id.
     coh-bind (λ r n. getD r 0 0 - 1 ≡ n) (coh-late (λ r. getD r 0 0 - 1)) (λ n. returns-bind _ λ top. returns-bind _ λ c. returns-bind _ λ d. returns-bind _ λ a. keeps-done (λ r h. let e = h .layers in omega arith)) λ n.
     coh-bind (Stands 2) (coh-general 2 3) (λ top. returns-bind _ λ c. returns-bind _ λ d. returns-bind _ λ a. keeps-done (λ r h. h .top)) λ top.
-    local-bind (local-check _ _) λ c.
+    local-bind (local-ruled _ _ _ (local-check _ _)) λ c.
     coh-bind (Stands 3) (coh-general-if _ 3 1 1) (λ d. returns-bind _ λ a. keeps-done (λ r h. h .default)) λ d.
     coh-bind (Stands 4) (coh-general-if _ 4 1 1) (λ a. keeps-done (λ r h. h .all)) λ a.
     local-done
@@ -77,16 +78,16 @@ coh-buffer-sections : (h : Header) (each multi : ℕ) → Coh (Stands 7) (buffer
 unfolding buffer-sections
 coh-buffer-sections h each multi = local-test (eqb each 0) (coh-multi-layer h multi) coh-single-layer
 
-pub coh-vps : Coh Begun vps
-unfolding vps
-coh-vps =
-    coh-bind HeaderAt coh-header
+pub coh-vps : (rules : Rules) → Coh Begun (vpsUnder rules)
+unfolding vpsUnder
+coh-vps rules =
+    coh-bind HeaderAt (coh-header rules)
     (λ h. returns-bind _ λ l. returns-bind _ λ s. returns-bind _ λ p. returns-bind _ λ o. returns-bind _ λ f. returns-bind _ λ x. keeps-mark (keeps-done (λ r g. record
     { layers = g .at 0 (lit< tt); id = g .at 1 (lit< tt); top = g .at 2 (lit< tt); default = g .at 3 (lit< tt); all = g .at 4 (lit< tt) }))) λ h.
     local-bind (local-mark (local-layers-section h)) λ l.
     coh-bind SetsAt (coh-sets-section h)
     (λ s. returns-bind _ λ p. returns-bind _ λ o. returns-bind _ λ f. returns-bind _ λ x. keeps-mark (keeps-done (λ r g. record { each = g .at 5 (lit< tt); mode = g .at 6 (lit< tt) }))) λ s.
-    local-bind (local-mark (local-ptl-section h _)) λ p.
+    local-bind (local-ruled _ _ _ (local-mark (local-ptl-section h _))) λ p.
     local-bind (local-mark (local-ols-section p _)) λ o.
     coh-bind (Stands 7) (coh-buffer-sections h _ _) (λ f. returns-bind _ λ x. keeps-mark (keeps-done (λ r g. g .at 7 (lit< tt)))) λ f.
     coh-bind (Stands 8) (coh-general 8 1) (λ x. keeps-mark (keeps-done (λ r g. g .at 8 (lit< tt)))) λ x.
