@@ -11,12 +11,12 @@ use lib.Dec.{leb, eqb}
 use lib.ListN.{length, getD, drop, length-append, length-drop}
 use Rattle.vps_definition.specs.Syntax.{Syntax, _>>=_, Token, numbers, run}
 use Rattle.vps_definition.specs.Syntax.Outcome.{accepted}
-use Rattle.vps_definition.specs.Words.{sum, u, u-minus1, inferred, nothing}
+use Rattle.vps_definition.specs.Words.{sum, u, u-minus1, inferred, ruled, nothing}
 use Rattle.vps_definition.specs.OutputLayerSets.{totalNumOlss, numMultiLayerOlss}
 use Rattle.vps_definition.specs.ProfileTierLevel.{falling, reversed, ahead, numberOf, constraint-bit, constraints, constraints-if, general-constraints-info, profile-and-tier, sub-profile, sub-profiles, profile-tier-level}
 use Rattle.vps_definition.specs.DpbParameters.{dpb-sublayer, per-sublayer, index, ols-dpb, dpb-section}
 use Rattle.vps_definition.specs.TimingHrd.{Hrd, general-timing-hrd, du-values, schedule, sublayer-hrd, timing-sublayer, timing-section}
-use Rattle.vps_definition.specs.Vps.{Header, Layers, Head, head, header, direct-reference, dependent-layer, independent-layer, layer, layers-section, output-flag, row, rows-section, no-rows, sets-section, slot-number-if, ptl-head, ptl-slot, ptl-section, ols-section, multi-layer-sections, single-layer-sections, buffer-sections, vps}
+use Rattle.vps_definition.specs.Vps.{Header, Layers, Head, head, headerUnder, header, direct-reference, dependent-layer, independent-layer, layer, layers-section, output-flag, row, rows-section, no-rows, sets-section, slot-number-if, ptl-head, ptl-slot, ptl-section, ols-section, multi-layer-sections, single-layer-sections, buffer-sections, vpsUnder, vps}
 use Rattle.vps_laws.specs.Reading.{Each, each-join}
 use Rattle.vps_laws.specs.Keeps.{Below}
 use Rattle.vps_laws.specs.Bound.{count-most}
@@ -30,7 +30,7 @@ record Small (h : Header) : Type 0 where
   sublayers : h .max-sublayers-minus1 ≤ 6
 
 within-header : Within Small 5 header
-unfolding header _>>=_
+unfolding headerUnder ruled _>>=_
 within-header =
     within-one refl (within-general 1 4 refl) λ id.
     within-late refl refl λ n l.
@@ -284,7 +284,7 @@ abbrev pub most-words : ℕ
 most-words = 794967
 
 within-vps : Within Any most-words vps
-unfolding vps numMultiLayerOlss
+unfolding vpsUnder ruled numMultiLayerOlss
 within-vps =
     within-after 5 refl within-header λ h g.
     within-after (64 * 129) refl (within-mark (within-layers-section h g)) λ l o.

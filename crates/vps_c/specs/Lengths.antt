@@ -7,6 +7,7 @@ use lib.ListN.{length}
 use Rattle.refusals.specs.Answer.{Answer}
 use Rattle.refusals.specs.Answer.Answer.{success, refusal}
 use Rattle.stuffing.specs.Laws.{stuff-length}
+use Rattle.vps_definition.specs.Rules.{today}
 use Rattle.vps_definition.specs.Reading.{readUnit}
 use Rattle.vps_definition.specs.Reading.Reading.{accepts}
 use Rattle.vps_definition.specs.Writing.{unitOf, writeRecord}
@@ -14,7 +15,7 @@ use Rattle.vps_laws.specs.Bound.{record-length}
 use Rattle.vps_c.specs.Written.{of-record}
 
 pub record-enough : (u r : List ℕ) (n : ℕ) → readUnit u ≡ accepts r n → length r ≤ 535855
-record-enough = record-length
+record-enough = record-length today
 
 -- a header, and an RBSP with half as much again
 abbrev Short : Answer (List ℕ) → Type 0

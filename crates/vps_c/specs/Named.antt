@@ -16,13 +16,13 @@ use Rattle.vps_definition.specs.Syntax.{Syntax, _>>=_, Token, Outcome, keeping,
 use Rattle.vps_definition.specs.Syntax.Syntax.{field, code, late, keep, mark, align, test, refuse, done}
 use Rattle.vps_definition.specs.Syntax.Token.{number, section}
 use Rattle.vps_definition.specs.Syntax.Outcome.{accepted, refused}
-use Rattle.vps_definition.specs.Words.{u, u-minus1, ue, ue-minus1, inferred, u-if, ue-if, general, general-if, check, nothing, when, aligned, keeps, loop, repeat}
+use Rattle.vps_definition.specs.Words.{u, u-minus1, ue, ue-minus1, inferred, u-if, ue-if, general, general-if, check, ruled, nothing, when, aligned, keeps, loop, repeat}
 use Rattle.vps_definition.specs.ProfileTierLevel.{falling, reversed, ahead, constraint-bit, constraints, constraints-if, general-constraints-info, profile-and-tier, sub-profile, sub-profiles, profile-tier-level}
 use Rattle.vps_definition.specs.DpbParameters.{dpb-sublayer, per-sublayer, index, ols-dpb, dpb-section}
 use Rattle.vps_definition.specs.TimingHrd.{Hrd, general-timing-hrd, du-values, schedule, sublayer-hrd, timing-sublayer, timing-section}
-use Rattle.vps_definition.specs.Vps.{Header, Layers, Head, header, direct-reference, dependent-layer, independent-layer, layer, layers-section, output-flag, row, rows-section, no-rows, sets-section, slot-number-if, ptl-head, ptl-slot, ptl-section, ols-section, multi-layer-sections, single-layer-sections, buffer-sections, vps}
+use Rattle.vps_definition.specs.Vps.{Header, Layers, Head, headerUnder, header, direct-reference, dependent-layer, independent-layer, layer, layers-section, output-flag, row, rows-section, no-rows, sets-section, slot-number-if, ptl-head, ptl-slot, ptl-section, ols-section, multi-layer-sections, single-layer-sections, buffer-sections, vpsUnder, vps}
 use Rattle.vps_definition.specs.Record.{recordOf}
-use Rattle.vps_definition.specs.Reading.{Reading, bitsAt, extensionBits, ended, closed, readRbsp}
+use Rattle.vps_definition.specs.Reading.{Reading, bitsAt, extensionBits, ended, closed, readRbspUnder, readRbsp}
 use Rattle.vps_definition.specs.Reading.Reading.{accepts, refuses}
 use Rattle.vps_laws.specs.Bind.{after, thenRead, run-bind}
 
@@ -231,7 +231,7 @@ ruleset words = (
 
 -- ── The first fields, layers and sets ─────────────────────────────────
 names-header : Names header
-unfolding header
+unfolding headerUnder ruled
 names-header = search words depth 30
 
 names-dependent-layer : (top i : ℕ) → Names (dependent-layer top i)
@@ -344,7 +344,7 @@ names-buffer-sections h each multi = search (words, names-dpb-section, names-tim
 
 -- ── The whole ─────────────────────────────────────────────────────────
 names-vps : Names vps
-unfolding vps
+unfolding vpsUnder ruled
 names-vps = search (words, names-header, names-layers-section, names-sets-section, names-ptl-section, names-ols-section, names-buffer-sections) depth 30
 
 trailing-named : (s : List ℕ) (at : ℕ) → AnswerNamed (trailingAt s at)
@@ -361,7 +361,7 @@ trailing-named s at =
     go false x y h g = g
 
 pub rbsp-named : (s : List ℕ) → ReadingNamed (readRbsp s)
-unfolding readRbsp closed ended
+unfolding readRbspUnder closed ended
 rbsp-named s = go (run vps s 0) (names-vps .holds s 0)
   where
     last : (r : List ℕ) (x : Answer ℕ) → AnswerNamed x → ReadingNamed (ended r x)

@@ -13,10 +13,10 @@ use Rattle.vps_definition.specs.Syntax.{Written, emit}
 use Rattle.vps_definition.specs.Syntax.Written.{wrote, bad}
 use Rattle.vps_definition.specs.Vps.{vps}
 use Rattle.vps_definition.specs.Reading.{most-rbsp-bytes}
-use Rattle.vps_definition.specs.Writing.{extensionOf, rbspOf, partsGood, unitOf, limited, finished, writeRecord}
+use Rattle.vps_definition.specs.Writing.{extensionOf, rbspOf, partsGood, unitOf, limited, finished, writeRecordUnder, writeRecord}
 
 pub of-record : (P : Answer (List ℕ) → Type 0) → P (refusal not-well-formed) → ((rbsp : List ℕ) → length rbsp ≤ most-rbsp-bytes → P (success (unitOf rbsp))) → (r : List ℕ) → P (writeRecord r)
-unfolding writeRecord finished limited
+unfolding writeRecordUnder finished limited
 of-record P refused written r = go (emit vps r (drop 9 r) 0)
   where
     within : (rbsp : List ℕ) (b : Bool) → leb (length rbsp) most-rbsp-bytes ≡ b → P (elim b as (λ d. Answer (List ℕ)) [ true ↦ success (unitOf rbsp) | false ↦ refusal not-well-formed ])

@@ -13,7 +13,7 @@ use Rattle.refusals.specs.Answer.Answer.{success, refusal}
 use Rattle.refusals.specs.Number.{unit-too-short, not-a-vps, rbsp-too-long, work-too-short, output-too-short}
 use Rattle.stuffing.specs.Stuffing.{unstuff}
 use Rattle.stuffing.specs.Answers.{lent, outputAfter}
-use Rattle.vps_definition.specs.Reading.{Reading, readRbsp, readLimited, readUnit, most-rbsp-bytes, vps-nut}
+use Rattle.vps_definition.specs.Reading.{Reading, readRbsp, limitedBy, unitBy, readUnit, most-rbsp-bytes, vps-nut}
 use Rattle.vps_definition.specs.Reading.Reading.{accepts, refuses}
 use Rattle.vps_definition.specs.Writing.{writeRecord}
 use Rattle.vps_reader.specs.Parse.{untouched, parseOf, recordAfter, parseRbsp, parsePayload, parseUnit}
@@ -72,7 +72,7 @@ module _ (u work rec : List ℕ) where
     whole : length (unstuff (drop 2 u)) ≤ length work → readUnit u ≡ readRbsp (unstuff (drop 2 u)) → parseUnit u work rec ≡ parseRbsp (unstuff (drop 2 u)) work rec → Way
 
 way : (u work rec : List ℕ) → Way u work rec
-unfolding parseUnit readUnit parsePayload readLimited
+unfolding parseUnit unitBy parsePayload limitedBy
 way [] work rec = early unit-too-short refl refl
 way (a ∷ []) work rec = early unit-too-short refl refl
 way (a ∷ b ∷ s) work rec = typed (eqb (b / 8) vps-nut) refl
@@ -81,16 +81,16 @@ way (a ∷ b ∷ s) work rec = typed (eqb (b / 8) vps-nut) refl
     x = unstuff s
 
     room : (c : Bool) → leb (length x) (length work) ≡ c → eqb (b / 8) vps-nut ≡ true → leb (length x) most-rbsp-bytes ≡ true → Way (a ∷ b ∷ s) work rec
-    room true g e f = whole (leb-true (length x) (length work) g) (rw (e, readUnit) (rw (f, readLimited) refl)) (rw (e, f, g) refl)
+    room true g e f = whole (leb-true (length x) (length work) g) (rw (e, unitBy) (rw (f, limitedBy) refl)) (rw (e, f, g) refl)
     room false g e f = narrow (leb-false (length x) (length work) g) (rw (e, f, g) refl)
 
     limited : (c : Bool) → leb (length x) most-rbsp-bytes ≡ c → eqb (b / 8) vps-nut ≡ true → Way (a ∷ b ∷ s) work rec
     limited true f e = room (leb (length x) (length work)) refl e f
-    limited false f e = early rbsp-too-long (rw (e, readUnit) (rw (f, readLimited) refl)) (rw (e, f) refl)
+    limited false f e = early rbsp-too-long (rw (e, unitBy) (rw (f, limitedBy) refl)) (rw (e, f) refl)
 
     typed : (c : Bool) → eqb (b / 8) vps-nut ≡ c → Way (a ∷ b ∷ s) work rec
     typed true e = limited (leb (length x) most-rbsp-bytes) refl e
-    typed false e = early not-a-vps (rw (e, readUnit) refl) (rw e refl)
+    typed false e = early not-a-vps (rw (e, unitBy) refl) (rw e refl)
 
 module _ (rec : List ℕ) where
   -- a record that fits

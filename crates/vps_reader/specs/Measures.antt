@@ -12,11 +12,12 @@ use Rattle.refusals.specs.Answer.Answer.{success, refusal}
 use Rattle.refusals.specs.Number.{rbsp-too-long}
 use Rattle.bits.specs.Reading.{trailingAt}
 use Rattle.bits.specs.TrailingLaws.{trails, trails-inside}
+use Rattle.vps_definition.specs.Rules.{today}
 use Rattle.vps_definition.specs.Syntax.{Token, numbers, starts, Outcome, run}
 use Rattle.vps_definition.specs.Syntax.Outcome.{accepted, refused}
 use Rattle.vps_definition.specs.Vps.{vps}
 use Rattle.vps_definition.specs.Record.{recordOf}
-use Rattle.vps_definition.specs.Reading.{Reading, bitsAt, dataBits, extensionBits, ended, closed, readRbsp, readLimited, most-rbsp-bytes}
+use Rattle.vps_definition.specs.Reading.{Reading, bitsAt, dataBits, extensionBits, ended, closed, readRbspUnder, readRbsp, limitedBy, readLimited, most-rbsp-bytes}
 use Rattle.vps_definition.specs.Reading.Reading.{accepts, refuses}
 use Rattle.vps_laws.specs.Extension.{bits-at-length, data-most}
 use Rattle.vps_laws.specs.Bound.{record-numbers, tokens-length, record-by-bits}
@@ -85,7 +86,7 @@ module _ {s : List ℕ} {c : Cursor} {w : Whole} {rec rec′ : List ℕ} (f : Fi
       go (refused k t) e S = absurd (S .some (sym (S .shut′) ∙ o))
 
   pub table-refused : (w .next .refused ≡ 0 → ⊥) → readRbsp s ≡ refuses (w .next .refused)
-  unfolding readRbsp closed
+  unfolding readRbspUnder closed
   table-refused h = go (run vps s 0) after
     where
       go : (x : Outcome (List ℕ)) → After x c (generalIn w) (w .next) rec rec′ → closed s x ≡ refuses (w .next .refused)
@@ -100,12 +101,12 @@ table-stored {s} {c} {w} {v} {rec} {rec′} f M T =
 
 -- ── What follows ──────────────────────────────────────────────────────
 pub limited-short : (s : List ℕ) → length s ≤ most-rbsp-bytes → readLimited s ≡ readRbsp s
-unfolding readLimited
-limited-short s l = rw (le-leb (length s) most-rbsp-bytes l, readLimited) refl
+unfolding limitedBy
+limited-short s l = rw (le-leb (length s) most-rbsp-bytes l, limitedBy) refl
 
 pub limited-long : (s : List ℕ) → most-rbsp-bytes < length s → readLimited s ≡ refuses rbsp-too-long
-unfolding readLimited
-limited-long s l = rw (lt-leb (length s) most-rbsp-bytes l, readLimited) refl
+unfolding limitedBy
+limited-long s l = rw (lt-leb (length s) most-rbsp-bytes l, limitedBy) refl
 
 pub extension-most : (flag : ℕ) (s : List ℕ) (at : ℕ) → extensionBits flag s at ≤ 8 * length s
 unfolding extensionBits
@@ -122,7 +123,7 @@ end-near {s} {w} l T e = omega (arith, l, e, vps-room s (T .is) .near, extension
 -- how a reading of the table ends
 pub ended-by : {s : List ℕ} {w : Whole} {count : ℕ} (T : Table s w) → count ≡ extensionBits (w .«extension_flag») s (w .next .at)
     → readRbsp s ≡ ended (recordOf (generalIn w) (T .kept) (bitsAt s (w .next .at) count)) (trailingAt s (w .next .at + count))
-unfolding readRbsp closed
+unfolding readRbspUnder closed
 ended-by {s} {w} T e =
     ap (closed s) (T .is)
     ∙ ap (λ (n : ℕ). ended (recordOf (generalIn w) (T .kept) (bitsAt s (w .next .at) n)) (trailingAt s (w .next .at + n))) (sym e)
@@ -152,7 +153,7 @@ found-inside {s} {w} {count} {bits} F = omega (arith, trails s (w .next .at + co
 -- all of its numbers are below 2 ^ 32
 pub found-most : {s : List ℕ} {w : Whole} {count bits : ℕ} → Found s w count bits → w .next .n + count + 9 < 2 ^ 32
 found-most {s} {w} {count} {bits} F =
-    let r = record-by-bits s (recordIn F) bits (sym (limited-short s (F .short)) ∙ found-accepts F) in
+    let r = record-by-bits today s (recordIn F) bits (sym (limited-short s (F .short)) ∙ found-accepts F) in
     let i = trails-inside s (w .next .at + count) bits (trails s (w .next .at + count) bits (F .ends)) in
     omega (arith, found-length F, r, i, F .short)
 

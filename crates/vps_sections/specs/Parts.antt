@@ -6,6 +6,7 @@ use mathlib.Core.Bool.{Bool, true, false, not}
 use native.Mathlib.Omega.{arith}
 use borrow.Author.Tests.{not-true, not-false}
 use lib.ListN.{length, take, drop}
+use Rattle.vps_definition.specs.Rules.{today}
 use Rattle.vps_definition.specs.Record.{startOf, endOf}
 use Rattle.vps_definition.specs.Writing.{wellFormed}
 use Rattle.vps_definition.specs.Lookup.{sectionStart, sectionEnd, sectionOf}
@@ -28,7 +29,7 @@ module _ (r : List ℕ) (k : ℕ) where
 
     module _ (l : k ≤ 8) (h : not b ≡ false) {start end : ℕ} (e : start ≡ startOf r k) (f : end ≡ endOf r k) where
       pub part-rises : start ≤ end
-      part-rises = omega (arith, e, f, section-inside r (sym w ∙ not-false b h) k l .rises)
+      part-rises = omega (arith, e, f, section-inside today r (sym w ∙ not-false b h) k l .rises)
 
       pub part-listed : IsPart r k start (end - start)
       part-listed =

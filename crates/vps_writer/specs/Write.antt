@@ -16,10 +16,11 @@ use Rattle.refusals.specs.Number.{not-well-formed, output-too-short}
 use Rattle.stuffing.specs.Stuffing.{stuff}
 use Rattle.stuffing.specs.Answers.{lent, outputAfter}
 use Rattle.bit_sink.specs.Holds.{limit}
+use Rattle.vps_definition.specs.Rules.{today}
 use Rattle.vps_definition.specs.Syntax.{Token, numbers, starts, Written, emit}
 use Rattle.vps_definition.specs.Syntax.Written.{wrote, bad}
 use Rattle.vps_definition.specs.Vps.{vps}
-use Rattle.vps_definition.specs.Writing.{extensionOf, unitOf, finished, writeRecord, wellFormed}
+use Rattle.vps_definition.specs.Writing.{extensionOf, unitOf, finished, writeRecordUnder, writeRecord, wellFormed}
 use Rattle.vps_laws.specs.Writing.{emit-numbers}
 use Rattle.vps_laws.specs.Claims.{written-well-formed, refused-ill-formed}
 use Rattle.write_steps.specs.declared.Place.{Place}
@@ -51,7 +52,7 @@ pub record Writes (r out : List ℕ) (x : Code.Written) (out′ : List ℕ) : Ty
 
 -- ── The table's writing, and what is made of it ───────────────────────
 pub table-fails : (r : List ℕ) → Fails 0 (emit vps r (drop 9 r) 0) → writeRecord r ≡ refusal not-well-formed
-unfolding writeRecord finished
+unfolding writeRecordUnder finished
 table-fails r h = go (emit vps r (drop 9 r) 0) h
   where
     go : (w : Written (List ℕ)) → Fails 0 w → finished r w ≡ refusal not-well-formed
@@ -59,7 +60,7 @@ table-fails r h = go (emit vps r (drop 9 r) 0) h
     go bad l = refl
 
 pub table-wrote : {g : List ℕ} {t : List Token} {x b : List ℕ} (r : List ℕ) → emit vps r (drop 9 r) 0 ≡ wrote g t x b → writeRecord r ≡ finished r (wrote g t x b)
-unfolding writeRecord
+unfolding writeRecordUnder
 table-wrote r e = ap (finished r) e
 
 -- a place before the first bit, with the record's tenth number next
@@ -102,8 +103,8 @@ pub measured-well-formed : (r : List ℕ) {e : Ended} → Measured r e → not (
 measured-well-formed r {e} M = go (e .bad) refl
   where
     go : (b : Bool) → e .bad ≡ b → not (e .bad) ≡ wellFormed r
-    go true h = ap not h ∙ sym (refused-ill-formed r (M .finishes .refused h))
-    go false h = ap not h ∙ sym (written-well-formed r _ (M .finishes .good h .is))
+    go true h = ap not h ∙ sym (refused-ill-formed today r (M .finishes .refused h))
+    go false h = ap not h ∙ sym (written-well-formed today r _ (M .finishes .good h .is))
 
 -- ── By what the first pass found ──────────────────────────────────────
 module _ (r out : List ℕ) where

@@ -2,6 +2,7 @@
 use Prim.Native.Nat.{ℕ, _≤_}
 use mathlib.Core.Path.{_≡_, sym}
 use mathlib.Core.List.{List}
+use Rattle.vps_definition.specs.Rules.{today}
 use Rattle.vps_definition.specs.Vps as Vps
 use Rattle.vps_laws.specs.Bound.{header-most}
 use Rattle.write_steps.specs.declared.Place.{Place}
@@ -21,7 +22,7 @@ pub does-header-capped : {rec : List ℕ} {p : Place} (h : Vps.Header) {top : �
       all-independent-flag = h .all-independent-flag;
     }) p′ out out′
 does-header-capped h e D =
-    does-other Vps.header header-most D (λ H i. record {
+    does-other Vps.header (header-most today) D (λ H i. record {
       id = h .id;
       layers = h .layers;
       max-sublayers-minus1 = sym (e (H .keeps .1)) i;

@@ -2,8 +2,9 @@
 use borrow.Author.Needs.{needs}
 use native.Mathlib.Omega.{arith}
 use mathlib.Core.Path.{refl}
-use Rattle.vps_definition.specs.Words.{general-if}
-use Rattle.vps_definition.specs.Vps.{header}
+use Rattle.vps_definition.specs.Rules.{today}
+use Rattle.vps_definition.specs.Words.{ruled, general-if}
+use Rattle.vps_definition.specs.Vps.{headerUnder}
 use Rattle.read_steps.specs.Laws.{meets-as, meets-then, meets-done}
 use Rattle.vps_laws.specs.Bound.{header-most}
 use Rattle.read_header.specs.Headers.{same-sublayers}
@@ -39,12 +40,12 @@ add-t14 : tie.Need-add-t14
 add-t14 c = omega (arith, c .before .before .before .before .before .before .before .before .before .before .before .before .take-late-within .ensures .0)
 
 returns : tie.Need-returns
-unfolding header
+unfolding headerUnder ruled
 returns c =
     record {
       meets =
           λ rec.
-          meets-other (λ t next e. same-sublayers _ (c .before .before .capped .ensures .1 (header-most .holds _ _ e .1)))
+          meets-other (λ t next e. same-sublayers _ (c .before .before .capped .ensures .1 (header-most today .holds _ _ e .1)))
           (meets-then _ _ (meets-general 1 4 rec (c .before .before .before .before .before .before .before .before .before .before .before .before .before .take-late .ensures))
           (meets-then _ _ (c .before .before .before .before .before .before .before .before .before .before .before .before .take-late-within .ensures .1 _ rec refl)
           (meets-then _ _ (meets-general 2 3 rec (λ find r. c .before .before .before .before .before .before .before .before .before .before .before .take-late-within2 .ensures .1 find r refl))

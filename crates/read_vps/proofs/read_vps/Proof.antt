@@ -2,7 +2,9 @@
 use Rattle.read_header.specs.Readings.{meets-general}
 use Rattle.read_steps.specs.Laws.{meets-as, meets-done}
 use Rattle.read_steps.specs.Marked.{marked-as, marked-plain, marked-mark, marked-then}
-use Rattle.vps_definition.specs.Vps.{ptl-section, ols-section, buffer-sections, vps}
+use Rattle.vps_definition.specs.Rules.{today}
+use Rattle.vps_definition.specs.Words.{ruled}
+use Rattle.vps_definition.specs.Vps.{ptl-section, ols-section, buffer-sections, vpsUnder}
 use Rattle.vps_laws.specs.Plain.{plain-header, plain-general, plain-layers-section, plain-ptl-section, plain-ols-section, plain-done}
 use mathlib.Core.Path.{refl, ap}
 use native.Mathlib.Omega.{arith}
@@ -41,12 +43,12 @@ same-length : tie.Need-same-length
 same-length c = search (needs, c .before .before .before .before .before .before .before .before .before .before .before .before .before .before .before .before .before .before .before .before .before .before .before .before .read-layers, c .before .before .before .before .before .before .before .before .before .before .before .before .before .before .before .before .before .before .read-sets, c .before .before .before .before .before .before .before .before .before .before .before .before .before .read-ptls, c .before .before .before .before .before .before .before .before .read-ols-section, c .before .before .before .before .read-buffer-sections)
 
 returns : tie.Need-returns
-unfolding vps
+unfolding vpsUnder ruled
 returns c =
     let H = c .before .before .before .before .before .before .before .before .before .before .before .before .before .before .before .before .before .before .before .before .before .before .before .before .before .before .before .before .before .read-header .ensures in
     let L = c .before .before .before .before .before .before .before .before .before .before .before .before .before .before .before .before .before .before .before .before .before .before .before .before .read-layers .ensures (omega (arith, H .sublayers-7)) (H .layers-64) refl in
     let S = c .before .before .before .before .before .before .before .before .before .before .before .before .before .before .before .before .before .before .read-sets .ensures (L .layers .refs) (record { some = H .one-layer; few = H .layers-64; below = L .below; masks = L .masks }) in
-    marked-then _ _ (marked-plain plain-header (H .meets _))
+    marked-then _ _ (marked-plain (plain-header today) (H .meets _))
     (marked-then _ _ (marked-mark (marked-plain (plain-layers-section _) (L .meets)))
     (marked-then _ _ (S .marked)
     (marked-then _ _ (marked-mark (marked-plain (plain-ptl-section _ _) (meets-as (ap (ptl-section _) (S .counted .all)) (c .before .before .before .before .before .before .before .before .before .before .before .before .before .read-ptls .ensures (omega (arith, H .sublayers-7))))))

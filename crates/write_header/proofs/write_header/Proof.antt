@@ -1,6 +1,6 @@
 -- `write_header` meets its contract: the words stand in the table's order, and the counts lie within their widths.
-use Rattle.vps_definition.specs.Vps.{header}
-use Rattle.vps_definition.specs.Words.{general-if}
+use Rattle.vps_definition.specs.Vps.{headerUnder}
+use Rattle.vps_definition.specs.Words.{ruled, general-if}
 use Rattle.write_header.specs.Headers.{does-header-capped}
 use Rattle.write_steps.specs.Laws.{does-as, does-then, does-done}
 use native.Mathlib.Omega.{arith}
@@ -39,7 +39,7 @@ same-length : tie.Need-same-length
 same-length c = search (needs, c .before .before .before .before .before .before .before .before .before .before .before .before .before .before .before .before .before .before .before .before .before .before .before .before .before .before .before .put-general, c .before .before .before .before .before .before .before .before .before .before .before .before .before .before .before .before .before .before .before .before .before .before .before .put-layers-minus1, c .before .before .before .before .before .before .before .before .before .before .before .before .before .before .before .before .before .before .before .put-general2, c .before .before .before .before .before .before .before .before .before .before .put-general-if, c .before .before .before .before .before .put-general-if2)
 
 returns : tie.Need-returns
-unfolding header
+unfolding headerUnder ruled
 returns c =
     record {
       does =

@@ -1,6 +1,7 @@
 -- `write_vps` meets its contract: the sections stand in the table's order, each with its start.
-use Rattle.vps_definition.specs.Vps.{ptl-section, ols-section, buffer-sections, vps}
-use Rattle.vps_definition.specs.Words.{general}
+use Rattle.vps_definition.specs.Rules.{today}
+use Rattle.vps_definition.specs.Vps.{ptl-section, ols-section, buffer-sections, vpsUnder}
+use Rattle.vps_definition.specs.Words.{ruled, general}
 use Rattle.vps_laws.specs.Plain.{plain-header, plain-general, plain-layers-section, plain-ptl-section, plain-ols-section, plain-done}
 use Rattle.write_steps.specs.Laws.{does-as, does-done}
 use Rattle.write_steps.specs.Marked.{marked-as, marked-plain, marked-mark, marked-then}
@@ -44,12 +45,12 @@ same-length : tie.Need-same-length
 same-length c = search (needs, c .before .before .before .before .before .before .before .before .before .before .before .before .before .before .before .before .before .before .before .before .before .before .before .before .before .before .before .before .before .before .before .before .before .before .before .write-header, c .before .before .before .before .before .before .before .before .before .before .before .before .before .before .before .before .before .before .before .before .before .before .before .before .before .before .before .before .write-layers, c .before .before .before .before .before .before .before .before .before .before .before .before .before .before .before .before .before .before .before .before .before .before .write-sets, c .before .before .before .before .before .before .before .before .before .before .before .before .before .before .before .before .before .write-ptls, c .before .before .before .before .before .before .before .before .before .before .before .before .write-ols-section, c .before .before .before .before .before .before .before .before .write-buffers, c .before .before .before .put-late)
 
 returns : tie.Need-returns
-unfolding vps general
+unfolding vpsUnder ruled general
 returns c =
     let H = c .before .before .before .before .before .before .before .before .before .before .before .before .before .before .before .before .before .before .before .before .before .before .before .before .before .before .before .before .before .before .before .before .before .before .before .write-header .ensures in
     let L = c .before .before .before .before .before .before .before .before .before .before .before .before .before .before .before .before .before .before .before .before .before .before .before .before .before .before .before .before .write-layers .ensures (omega (arith, H .sublayers-7)) (H .layers-64) refl in
     let S = c .before .before .before .before .before .before .before .before .before .before .before .before .before .before .before .before .before .before .before .before .before .before .write-sets .ensures (L .layers .refs) (record { some = H .one-layer; few = H .layers-64; below = L .below; masks = L .masks }) in
-    marked-then _ _ (marked-plain plain-header (H .does))
+    marked-then _ _ (marked-plain (plain-header today) (H .does))
     (marked-then _ _ (marked-mark (marked-plain (plain-layers-section _) (L .does)))
     (marked-then _ _ (S .marked)
     (marked-then _ _ (marked-mark (marked-plain (plain-ptl-section _ _) (does-as (ap (ptl-section _) (S .counted .all)) (c .before .before .before .before .before .before .before .before .before .before .before .before .before .before .before .before .before .write-ptls .ensures))))
