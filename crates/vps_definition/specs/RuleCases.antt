@@ -35,3 +35,8 @@ slots-before-ptls = (refl, refl)
 pub some-slots : readUnitUnder early (0 ∷ 0x71 ∷ 0x10 ∷ 0x80 ∷ 0 ∷ 0x48 ∷ 0x43 ∷ 0 ∷ 0x67 ∷ 0xc0 ∷ 2 ∷ 0x33 ∷ 0 ∷ 0 ∷ 0x80 ∷ []) ≡ refuses 10
 unfolding opened
 some-slots = refl
+
+-- one layer, which is a set: the unit is read as today
+pub each-layer-has-slots : readUnitUnder early (0 ∷ 0x71 ∷ 0x10 ∷ 0 ∷ 0 ∷ 3 ∷ 2 ∷ 0x33 ∷ 0 ∷ 0 ∷ 0x40 ∷ []) ≡ readUnit (0 ∷ 0x71 ∷ 0x10 ∷ 0 ∷ 0 ∷ 3 ∷ 2 ∷ 0x33 ∷ 0 ∷ 0 ∷ 0x40 ∷ [])
+unfolding opened
+each-layer-has-slots = refl

@@ -27,5 +27,7 @@ pub mod Views
 pub mod Promises
 pub mod Bound
 pub mod Compared
+pub mod Codes
+pub mod Says
 pub mod Order
 pub mod Lookup
