@@ -1,11 +1,11 @@
 // The layers of a lent record as masks: which layers each one refers to, and which it reaches.
 ghost use mathlib.Core.Path.{_≡_};
-ghost use Prim.Native.Nat.{_+_, _*_, _≤_};
-ghost use lib.ListN.{length, getD, drop};
-ghost use Rattle.vps_definition.specs.OutputLayerSets.{flagged, refersBy};
+ghost use Prim.Native.Nat.{_+_, _≤_, min};
+ghost use lib.ListN.{drop};
+ghost use Rattle.vps_definition.specs.OutputLayerSets.{flagged};
 ghost use Rattle.vps_definition.specs.Layout.{firsts, flagsIn, entryLength, flagsFrom};
 ghost use Rattle.layer_sets.specs.Masks.{maskOf};
-ghost use Rattle.layer_sets.specs.Closed.{Closed};
+ghost use Rattle.record_layers.specs.Turns.{Stored};
 
 // The layers whose flag is 1, the first of each of i pairs.
 fn flags_mask(rec: &[u32], from: usize, i: usize) -> u64
@@ -33,6 +33,12 @@ fn direct_mask(rec: &[u32], at: usize, i: usize) -> u64
     0
 }
 
+fn least(a: usize, b: usize) -> usize
+    ensures { λ r. ⌜ r ≡ min a b ⌝ }
+{
+    if a < b { a } else { b }
+}
+
 // Where the entry of layer i + 1 stands.
 fn next_entry(rec: &[u32], at: usize, i: usize) -> usize
     requires { ⌜ (i ≤ 64) × (at ≤ 8900) ⌝ }
@@ -44,16 +50,15 @@ fn next_entry(rec: &[u32], at: usize, i: usize) -> usize
     at + 3
 }
 
-// Stores the layers that each of n layers reaches, by the Layers section of the record.
+// Stores the layers that each of n layers reaches, by the Layers section of the record: as many masks as there are places for,
+// 64 at the most. What stands behind them stays.
 pub fn layer_masks(rec: &[u32], closed: &mut [u64], n: usize)
-    ensures { λ _. ⌜ (n ≤ 64 → length (now (closed .entry)) ≡ 64 → Closed (refersBy (flagsFrom n 0 (drop 9 (now (rec .entry))))) (now (closed .exit)) n) ⌝ }
+    ensures { λ _. ⌜ Stored (flagsFrom n 0 (drop 9 (now (rec .entry)))) n (now (closed .entry)) (now (closed .exit)) ⌝ }
 {
+    let most = least(n, least(64, closed.len()));
     let mut at = 9;
     let mut i = 0;
-    while i < n {
-        if 64 <= i {
-            return;
-        }
+    while i < most {
         let mask = direct_mask(rec, at, i);
         layer_sets::close(closed, mask, i);
         at = next_entry(rec, at, i);

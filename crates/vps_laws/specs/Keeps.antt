@@ -153,7 +153,8 @@ pub keeps-inferred : (v : ℕ) → Keeps (λ a t. (t ≡ number a ∷ []) × (a 
 unfolding inferred
 keeps-inferred v = keeps-keep (keeps-done (refl, refl))
 
-clash : {A : Type 0} {b : Bool} → b ≡ true → b ≡ false → A
+-- a condition that is both
+pub clash : {A : Type 0} {b : Bool} → b ≡ true → b ≡ false → A
 clash e f = absurd (let n : _≡_ {A = ℕ} 0 1 = cc in omega arith)
 
 -- coded or inferred

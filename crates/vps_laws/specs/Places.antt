@@ -3,10 +3,10 @@ use Prim.Native.Nat.{ℕ, zero, suc, _+_, _*_, _≤_, _<_}
 use mathlib.Core.Path.{_≡_, refl, sym, ap, _∙_, subst, subst⁻¹}
 use mathlib.Core.List.{List, [], _∷_, _++_, append-assoc}
 use mathlib.Core.Bool.{Bool, true, false}
-use native.Mathlib.Nat.{add-zero, zero-add, suc-mul}
+use native.Mathlib.Nat.{add-zero, suc-mul}
 use native.Mathlib.Omega.{arith}
 use lib.ListN.{length, getD, drop}
-use lib.Seq.{drop-at}
+use lib.Seq.{drop-at, drop-drop, getD-drop}
 use Rattle.vps_definition.specs.Syntax.{Syntax, _>>=_, Token, numbers, run, look}
 use Rattle.vps_definition.specs.Syntax.Syntax.{test, done}
 use Rattle.vps_definition.specs.Syntax.Token.{number}
@@ -117,23 +117,15 @@ unfolding repeat
 read-again step n y M R e l = read-turn step n 0 tt y (λ i x. M) R e l .4
 
 -- steps of one length
-pub drop-drop : (a b : ℕ) (y : List ℕ) → drop b (drop a y) ≡ drop (a + b) y
-drop-drop zero b y = ap (λ (n : ℕ). drop n y) (sym (zero-add b))
-drop-drop (suc a) zero [] = ap (λ (n : ℕ). drop n []) (sym (add-zero (suc a)))
-drop-drop (suc a) (suc b) [] = let e : suc a + suc b ≡ suc (a + suc b) = omega arith in rw e refl
-drop-drop (suc a) b (v ∷ y) = let e : suc a + b ≡ suc (a + b) = omega arith in rw e (drop-drop a b y)
-
 pub again-drop : (k n : ℕ) (y : List ℕ) → again (drop k) n y ≡ drop (n * k) y
 unfolding again
 again-drop k zero y = let e : 0 * k ≡ 0 = omega arith in rw e refl
 again-drop k (suc n) y =
     let e : k + n * k ≡ suc n * k = omega (arith, suc-mul n k) in
-    again-drop k n (drop k y) ∙ drop-drop k (n * k) y ∙ ap (λ (i : ℕ). drop i y) e
+    again-drop k n (drop k y) ∙ drop-drop (n * k) k y ∙ ap (λ (i : ℕ). drop i y) e
 
 pub get-drop : (k : ℕ) (y : List ℕ) → getD (drop k y) 0 0 ≡ getD y k 0
-get-drop zero y = refl
-get-drop (suc k) [] = refl
-get-drop (suc k) (v ∷ y) = get-drop k y
+get-drop k y = getD-drop k y 0 0 ∙ ap (λ (n : ℕ). getD y n 0) (add-zero k)
 
 -- ── The ends of a list ────────────────────────────────────────────────
 -- z is what y ends in

@@ -7,7 +7,7 @@ use native.Mathlib.Omega.{arith}
 use borrow.Author.Tests.{leb-true, ltb-true}
 use lib.Dec.{ltb, leb, eqb}
 use lib.ListN.{length, getD, take, drop}
-use lib.Seq.{drop-at}
+use lib.Seq.{drop-at, drop-drop}
 use Rattle.refusals.specs.Number.{timing-max-tid, timing-index}
 use Rattle.vps_definition.specs.Syntax.{Syntax, _>>=_, Token, numbers, run}
 use Rattle.vps_definition.specs.Syntax.Token.{number}
@@ -20,7 +20,7 @@ use Rattle.vps_laws.specs.Keeps.{Keeps, keeps-so, keeps-bind, keeps-test
 use Rattle.vps_laws.specs.Tables.{local-general-timing-hrd}
 use Rattle.vps_laws.specs.Indices.{Long, long-bind, long-one, long-u, long-u-if, long-ue, long-ue-if, long-check, long-nothing, long-loop, long-general-timing-hrd}
 use Rattle.vps_laws.specs.OutputLayerSets.{and-both}
-use Rattle.vps_laws.specs.Places.{ReadAt, read-keeps, read-look, read-first, read-else, Passes, long-passes, read-both, passes-loop, read-again, drop-drop, again-drop, get-drop, Ends, read-ends, ends-on}
+use Rattle.vps_laws.specs.Places.{ReadAt, read-keeps, read-look, read-first, read-else, Passes, long-passes, read-both, passes-loop, read-again, again-drop, get-drop, Ends, read-ends, ends-on}
 
 -- ── Lengths ───────────────────────────────────────────────────────────
 -- as many numbers, counted otherwise
@@ -93,14 +93,14 @@ timing-read d top multi y z R =
     let B₄ = read-both (long-passes (long-check _ _)) (B₃ .2) in
     let B₅ = read-both (passes-loop (behindEntry (B₁ .0) (B₂ .0)) (B₃ .0) 0 tt (λ i x. passes-entry d top timing-max-tid (B₂ .0) (B₁ .0))) (B₄ .2) in
     let step : List ℕ → List ℕ = behindEntry (B₁ .0) (B₂ .0) in
-    let q : drop 1 (drop 1 (drop 11 y)) ≡ drop 13 y = ap (drop 1) (drop-drop 11 1 y) ∙ drop-drop 12 1 y in (
+    let q : drop 1 (drop 1 (drop 11 y)) ≡ drop 13 y = ap (drop 1) (drop-drop 1 11 y) ∙ drop-drop 1 12 y in (
       B₁ .0,
       B₂ .0,
       B₃ .0,
       record {
         hrd-read = B₁ .1;
         flag-is = sym (get-drop 11 y) ∙ read-first (keeps-so (keeps-u-if (ltb 0 top) 1 0) (λ a t h. h .0)) (B₂ .1);
-        count-is = sym (get-drop 12 y) ∙ ap (λ (x : List ℕ). getD x 0 0) (sym (drop-drop 11 1 y)) ∙ read-first (keeps-so keeps-ue-minus1 (λ a t h. h .0)) (B₃ .1);
+        count-is = sym (get-drop 12 y) ∙ ap (λ (x : List ℕ). getD x 0 0) (sym (drop-drop 1 11 y)) ∙ read-first (keeps-so keeps-ue-minus1 (λ a t h. h .0)) (B₃ .1);
         few = leb-true (B₃ .0) multi (read-keeps (keeps-check _ _) (B₄ .1) .1);
         entry = λ e l. subst (λ (x : List ℕ). ReadAt (per-sublayer d top timing-max-tid (B₂ .0) (timing-sublayer (B₁ .0))) tt (again step e x) (again step (suc e) x)) q
             (read-again step (B₃ .0) _ (passes-entry d top timing-max-tid (B₂ .0) (B₁ .0)) (B₅ .1) e l);
@@ -175,7 +175,7 @@ read-sublayer d top n flag h y z R j l =
     let B₂ = read-both (long-passes (long-check _ _)) (B₁ .2) in
     let v : getD y 0 0 ≡ B₁ .0 = read-first (keeps-so (keeps-u-if (eqb d 0) 3 top) (λ a t h. h .0)) (B₁ .1) in
     let k : j < sublayers flag (B₁ .0) = subst (λ (m : ℕ). j < sublayers flag m) v l in
-    let at : (i : ℕ) → again (drop (sublayerLength h)) i (drop 1 y) ≡ drop (1 + i * sublayerLength h) y = λ i. again-drop (sublayerLength h) i (drop 1 y) ∙ drop-drop 1 (i * sublayerLength h) y in
+    let at : (i : ℕ) → again (drop (sublayerLength h)) i (drop 1 y) ≡ drop (1 + i * sublayerLength h) y = λ i. again-drop (sublayerLength h) i (drop 1 y) ∙ drop-drop (i * sublayerLength h) 1 y in
     subst₂ (λ (x w : List ℕ). ReadAt (timing-sublayer h) tt x w) (at j) (at (suc j))
     (read-again (drop (sublayerLength h)) (sublayers flag (B₁ .0)) (drop 1 y) (long-passes (long-timing-sublayer h)) (B₂ .2) j k)
 
@@ -222,10 +222,10 @@ sublayer-read h y z R =
     let k₂ = read-keeps (keeps-u-if (eqb (B₁ .0) 0) 1 1) (B₂ .1) in
     let k₃ = read-keeps (keeps-ue-if (eqb (B₂ .0) 1) 0) (B₃ .1) in
     let l₁ : B₁ .0 < 2 = k₁ .1 in
-    let q : drop 1 (drop 1 (drop 1 (drop 1 y))) ≡ drop 4 y = ap (λ (x : List ℕ). drop 1 (drop 1 x)) (drop-drop 1 1 y) ∙ ap (drop 1) (drop-drop 2 1 y) ∙ drop-drop 3 1 y in
+    let q : drop 1 (drop 1 (drop 1 (drop 1 y))) ≡ drop 4 y = ap (λ (x : List ℕ). drop 1 (drop 1 x)) (drop-drop 1 1 y) ∙ ap (drop 1) (drop-drop 1 2 y) ∙ drop-drop 1 3 y in
     let S : ℕ = schedulesLength h (h .nal) in
-    let at-nal : (i : ℕ) → drop i (drop 1 (drop 1 (drop 1 (drop 1 y)))) ≡ drop (4 + i) y = λ i. ap (drop i) q ∙ drop-drop 4 i y in
-    let at-vcl : (i : ℕ) → drop i (drop S (drop 1 (drop 1 (drop 1 (drop 1 y))))) ≡ drop (4 + S + i) y = λ i. ap (drop i) (at-nal S) ∙ drop-drop (4 + S) i y in
+    let at-nal : (i : ℕ) → drop i (drop 1 (drop 1 (drop 1 (drop 1 y)))) ≡ drop (4 + i) y = λ i. ap (drop i) q ∙ drop-drop i 4 y in
+    let at-vcl : (i : ℕ) → drop i (drop S (drop 1 (drop 1 (drop 1 (drop 1 y))))) ≡ drop (4 + S + i) y = λ i. ap (drop i) (at-nal S) ∙ drop-drop i (4 + S) y in
     record {
       general = subst⁻¹ (λ (n : ℕ). n < 2) v₁ l₁;
       within = subst⁻¹ (λ (n : ℕ). n < 2) v₂ (bit (B₁ .0) (B₂ .0) (k₂ .1) (k₂ .2));

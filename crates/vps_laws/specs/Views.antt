@@ -22,7 +22,7 @@ use Rattle.vps_definition.specs.Reading.Reading.{accepts}
 use Rattle.vps_definition.specs.Writing.{wellFormedUnder}
 use Rattle.vps_definition.specs.Layout.{fromSection, flagsFrom, setsIn, ptlCount, setCount, multiCount, timingFlag, timingCount, timingIndices}
 use Rattle.vps_definition.specs.Views.{no-layers, no-sets, headerOf, layersOf, setsReadOf, refsOf, setsOf, timingEntry}
-use Rattle.vps_laws.specs.Keeps.{Keeps, Returns, numbers-append, keeps-any, keeps-so, keeps-bind, keeps-test, keeps-late, keeps-mark, keeps-keep, keeps-done, returns-bind}
+use Rattle.vps_laws.specs.Keeps.{Keeps, Returns, clash, numbers-append, keeps-any, keeps-so, keeps-bind, keeps-test, keeps-late, keeps-mark, keeps-keep, keeps-done, returns-bind}
 use Rattle.vps_laws.specs.Coherence.{Coh, coh-look}
 use Rattle.vps_laws.specs.Tables.{local-layers-section}
 use Rattle.vps_laws.specs.OutputLayerSets.{multi-each-layer}
@@ -40,9 +40,6 @@ use Rattle.vps_laws.specs.Laid.{Marked, Buffered, Marks₇, seven-marks,
 use Rattle.vps_laws.specs.Claims.{rbspIn, accepted-reads, well-formed-written}
 
 -- ── Each layer a set ──────────────────────────────────────────────────
-clash : {A : Type 0} {b : Bool} → b ≡ true → b ≡ false → A
-clash e f = absurd (let n : _≡_ {A = ℕ} 0 1 = cc in omega arith)
-
 -- where the each-layer flag isn't 0 each layer is a set
 sets-each : (h : Header) → Returns (λ s. eqb (s .each-layer-flag) 0 ≡ false → s .sets ≡ each-layer) (sets-section h)
 unfolding sets-section

@@ -1,28 +1,28 @@
 -- `layer_masks` meets its contract: behind turn i the layers below i have their closed masks, and the flags of the rest stand from here on.
 use Prim.Native.Nat.{_+_, _*_, _-_, _≤_}
-use mathlib.Core.Path.{_≡_}
+use mathlib.Core.Path.{_≡_, _∙_}
 use native.Mathlib.Omega.{arith}
 use lib.ListN.{length}
-use Rattle.record_layers.specs.Turns.{SoFar, so-far-none, so-far-turn, so-far-all}
+use Rattle.record_layers.specs.Turns.{stored, SoFar, so-far-none, so-far-turn, so-far-all}
 use borrow.Author.Needs.{needs}
 use Rattle.record_layers.proofs.layer_masks.Statement.{statement}
 use Rattle.record_layers.proofs.layer_masks.Tie as tie
 
 abbrev Inv-loop : tie.InvT-loop
-Inv-loop rec closed₀ n at₀ i₀ closed at i =
-    (i ≤ n) × (i ≤ 64) × (at ≤ 9 + 131 * i) × (length closed ≡ length closed₀) × (length closed₀ ≡ 64 → SoFar rec n i at closed)
+Inv-loop rec closed₀ n most at₀ i₀ closed at i =
+    (i ≤ most) × (most ≡ stored n (length closed₀)) × (at ≤ 9 + 131 * i) × (length closed ≡ length closed₀) × SoFar rec n i at closed₀ closed
 
 abbrev μ-loop : tie.MeasureT-loop
-μ-loop rec closed₀ n at₀ i₀ closed at i = n - i
+μ-loop rec closed₀ n most at₀ i₀ closed at i = most - i
+
+least-requires : tie.Need-least-requires Inv-loop μ-loop
+least-requires c κs = search needs
+
+least-requires-2 : tie.Need-least-requires-2 Inv-loop μ-loop
+least-requires-2 c κs = search needs
 
 loop-holds : tie.Need-loop-holds Inv-loop μ-loop
-loop-holds c = (search needs, search needs, search needs, search needs, λ e. so-far-none _ _)
-
-same-length : tie.Need-same-length Inv-loop μ-loop
-same-length c = search needs
-
-returns : tie.Need-returns Inv-loop μ-loop
-returns c l e = absurd (omega (arith, c .if1 .taken))
+loop-holds c = (search needs, omega (arith, c .before .least .ensures, c .least2 .ensures), search needs, search needs, so-far-none _ _)
 
 direct-mask-requires : tie.Need-direct-mask-requires Inv-loop μ-loop
 direct-mask-requires c κs = (omega arith, omega arith)
@@ -42,17 +42,17 @@ loop-less c = search needs
 loop-again : tie.Need-loop-again Inv-loop μ-loop
 loop-again c = (
   search needs,
-  omega arith,
+  c .before .before .before .before .before .before .before .loop .inv .1,
   omega (arith, c .next-entry .ensures),
-  search (needs, c .before .before .before .close, c .before .before .before .before .before .before .before .before .loop),
-  λ e. so-far-turn _ _ _ _ (omega arith) (omega arith) (omega (arith, e, c .before .before .before .before .before .before .before .before .loop .inv .3)) (c .before .before .before .before .before .before .before .before .loop .inv .4 e) (c .before .before .before .before .before .direct-mask .ensures) (c .before .before .before .close .ensures) (c .next-entry .ensures .0),
+  search (needs, c .before .before .before .close, c .before .before .before .before .before .before .before .loop .inv .3),
+  so-far-turn _ _ _ _ (omega (arith, c .before .before .before .before .before .before .before .loop .inv .1)) (omega (arith, c .before .before .before .before .before .before .before .loop .inv .1)) (omega (arith, c .before .before .before .before .before .before .before .loop .inv .1, c .before .before .before .before .before .before .before .loop .inv .3)) (c .before .before .before .before .before .before .before .loop .inv .4) (c .before .before .before .before .before .direct-mask .ensures) (c .before .before .before .close .ensures) (c .next-entry .ensures .0),
 )
 
-same-length-2 : tie.Need-same-length-2 Inv-loop μ-loop
-same-length-2 c = search needs
+same-length : tie.Need-same-length Inv-loop μ-loop
+same-length c = search needs
 
-returns-2 : tie.Need-returns-2 Inv-loop μ-loop
-returns-2 c l e = so-far-all _ _ _ _ (omega arith) (c .before .loop .inv .4 e)
+returns : tie.Need-returns Inv-loop μ-loop
+returns c = so-far-all _ _ _ _ (omega (arith, c .before .loop .inv .0, c .before .loop .inv .1)) (c .before .loop .inv .4)
 
 pub layer-masks-spec : {M : Type 1} → statement M
 layer-masks-spec =
@@ -60,14 +60,14 @@ layer-masks-spec =
     (tie.spec
     Inv-loop
     μ-loop
+    least-requires
+    least-requires-2
     loop-holds
-    same-length
-    returns
     direct-mask-requires
     close-requires
     next-entry-requires
     add-i
     loop-less
     loop-again
-    same-length-2
-    returns-2)
+    same-length
+    returns)
