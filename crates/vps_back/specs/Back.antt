@@ -13,7 +13,7 @@ use Rattle.refusals.specs.Answer.Answer.{success, refusal}
 use Rattle.refusals.specs.Number.{record-too-short, output-too-short}
 use Rattle.stuffing.specs.Answers.{lent, outputAfter}
 use Rattle.vps_definition.specs.Writing.{same, writeRecord}
-use Rattle.vps_reader.specs.Parse.{Parse, parseUnit}
+use Rattle.vps_reader.specs.Parse.{Parse, parseNumber, parseUnit}
 use Rattle.vps_reader.specs.Parse.Parse.{accepted, too-short, refused}
 use Rattle.vps_reader.specs.Answers.{parsedAnswer, Gives}
 use Rattle.vps_reader.specs.declared.Parsed as Parsed
@@ -43,8 +43,8 @@ writtenBack u (refusal n) = not-written n
 -- of the reader's answer, and what the record then holds
 unfoldable pub readBack : (unit : List ℕ) → Parse → (lent : List ℕ) → Back
 readBack u (accepted n bits) lent = writtenBack u (writeRecord (take n lent))
-readBack u (too-short needed) lent = not-read record-too-short
-readBack u (refused n) lent = not-read n
+readBack u (too-short needed) lent = not-read (parseNumber (too-short needed))
+readBack u (refused n) lent = not-read (parseNumber (refused n))
 
 -- of a unit, with a work buffer of 4,096 bytes and a record of 8,192 numbers
 unfoldable pub back : (unit : List ℕ) → Back

@@ -2,32 +2,24 @@
 use Prim.Native.Nat.{ℕ}
 use mathlib.Core.Path.{_≡_, refl, sym, ap, _∙_}
 use mathlib.Core.List.{List}
+use lib.ListN.{getD}
 use Rattle.refusals.specs.Answer.{Answer}
 use Rattle.refusals.specs.Answer.Answer.{success, refusal}
 use Rattle.refusals.specs.Number.{record-too-short}
-use Rattle.vps_reader.specs.Parse.{Parse}
+use Rattle.vps_reader.specs.Parse.{Parse, parseNumber, parseValues}
 use Rattle.vps_reader.specs.Parse as Reader
-use Rattle.vps_reader.specs.Parse.Parse.{accepted, too-short, refused}
 use Rattle.vps_reader.specs.Answers.{parsedAnswer, Gives}
 use Rattle.vps_reader.specs.declared.Parsed.{Parsed}
 use Rattle.vps_reader.specs.declared.Parsed.the-variants.{Accepted, TooShort, Refused}
 
 -- ── The reader's answers ──────────────────────────────────────────────
-abbrev pub parseNumber : Parse → ℕ
-parseNumber (accepted n bits) = 0
-parseNumber (too-short needed) = record-too-short
-parseNumber (refused k) = k
-
--- what the length is then: the record's, or the one that it needs, or the one before
+-- what the length is then: the answer's first value, the record's length or the one that it needs; or the one before
 abbrev pub lengthAfter : Parse → (before : ℕ) → ℕ
-lengthAfter (accepted n bits) before = n
-lengthAfter (too-short needed) before = needed
-lengthAfter (refused k) before = before
+lengthAfter x before = getD (parseValues x) 0 before
 
+-- and the bits used: its second value, or those before
 abbrev pub bitsAfter : Parse → (before : ℕ) → ℕ
-bitsAfter (accepted n bits) before = bits
-bitsAfter (too-short needed) before = before
-bitsAfter (refused k) before = before
+bitsAfter x before = getD (parseValues x) 1 before
 
 -- the number, the work buffer, the record, the length and the bits used
 pub record Parses (x : Reader.Parsed) (before-length before-bits k : ℕ) (work lent : List ℕ) (length bits : ℕ) : Type 0 where

@@ -17,11 +17,11 @@ use Rattle.vps_definition.specs.Rules.{today}
 use Rattle.vps_definition.specs.Reading.{Reading, readRbsp, most-rbsp-bytes, vps-nut}
 use Rattle.vps_definition.specs.Reading.Reading.{accepts, refuses}
 use Rattle.vps_definition.specs.Writing.{writeRecord}
-use Rattle.vps_reader.specs.Parse.{Parse, Parsed, parseOf, parseRbsp, parsePayload, parseUnit}
+use Rattle.vps_reader.specs.Parse.{Parse, parseNumber, Parsed, parseOf, parseRbsp, parsePayload, parseUnit}
 use Rattle.vps_reader.specs.Parse.Parse.{accepted, too-short, refused}
 use Rattle.vps_writer.specs.Write.{writeOf}
 use Rattle.vps_laws.specs.Says.{Said, Among, TableSaid, ReadingSays, rbsp-says}
-use Rattle.vps_c.specs.Calls.{parseNumber, numberOf}
+use Rattle.vps_c.specs.Calls.{numberOf}
 use Rattle.vps_c.specs.Written.{of-record}
 
 clash : {A : Type 0} → _≡_ {A = ℕ} 0 1 → A

@@ -4,7 +4,7 @@ use mathlib.Core.List.{List, [], _∷_, _++_}
 use mathlib.Core.Bool.{cond}
 use lib.Dec.{leb, eqb}
 use lib.ListN.{length, drop}
-use Rattle.refusals.specs.Number.{unit-too-short, not-a-vps, rbsp-too-long, work-too-short}
+use Rattle.refusals.specs.Number.{unit-too-short, not-a-vps, rbsp-too-long, work-too-short, record-too-short}
 use Rattle.stuffing.specs.Stuffing.{unstuff}
 use Rattle.vps_definition.specs.Reading.{Reading, readRbsp, most-rbsp-bytes, vps-nut}
 use Rattle.vps_definition.specs.Reading.Reading.{accepts, refuses}
@@ -12,10 +12,22 @@ use Rattle.vps_definition.specs.Reading.Reading.{accepts, refuses}
 pub data Parse : Type 0 where
   -- the record's length, and the bits used
   accepted : (record-length bits-used : ℕ) → Parse
-  -- refusal 30: the record is too short, with the length that it needs
+  -- the record is too short, with the length that it needs
   too-short : (needed : ℕ) → Parse
   -- any other refusal
   refused : (number : ℕ) → Parse
+
+-- the number of each answer: 0 is success
+abbrev pub parseNumber : Parse → ℕ
+parseNumber (accepted n bits) = 0
+parseNumber (too-short needed) = record-too-short
+parseNumber (refused k) = k
+
+-- and its values: the record's length and the bits used, the length that the record needs, or none
+abbrev pub parseValues : Parse → List ℕ
+parseValues (accepted n bits) = n ∷ bits ∷ []
+parseValues (too-short needed) = needed ∷ []
+parseValues (refused k) = []
 
 -- numbers at the beginning of a lent slice, and what was behind them
 abbrev pub overlaid : (numbers lent : List ℕ) → List ℕ

@@ -9,9 +9,8 @@ use borrow.Author.Tests.{leb-true, leb-false, le-leb, lt-leb}
 use lib.Dec.{leb}
 use lib.ListN.{length, replicate, take, drop, getD, drop-of-length-le}
 use lib.Seq.{drop-cons, take-all}
-use Rattle.refusals.specs.Number.{record-too-short}
 use Rattle.vps_definition.specs.Record.{startOf, endOf}
-use Rattle.vps_reader.specs.Parse.{Parse, parseUnit}
+use Rattle.vps_reader.specs.Parse.{Parse, parseNumber, parseUnit}
 use Rattle.vps_reader.specs.Parse.Parse.{accepted, too-short, refused}
 use Rattle.vps_show.specs.Decimal.{decimal}
 use Rattle.vps_show.specs.Text.{Puts, puts-length, puts-none, puts-then}
@@ -62,8 +61,8 @@ refusedText n = (114 ∷ 101 ∷ 102 ∷ 117 ∷ 115 ∷ 101 ∷ 100 ∷ []) ++ 
 -- of an answer, and what the lent record then holds
 unfoldable pub shown : Parse → (lent : List ℕ) → List ℕ
 shown (accepted n bits) lent = okText n ++ recordText (take n lent)
-shown (too-short needed) lent = refusedText record-too-short
-shown (refused n) lent = refusedText n
+shown (too-short needed) lent = refusedText (parseNumber (too-short needed))
+shown (refused n) lent = refusedText (parseNumber (refused n))
 
 -- of a unit, with a work buffer of 4,096 bytes and a record of 8,192 numbers
 unfoldable pub shownUnit : List ℕ → List ℕ
