@@ -8,16 +8,15 @@ use lib.ListN.{length, getD, drop}
 use Rattle.refusals.specs.Answer.{Answer}
 use Rattle.refusals.specs.Answer.Answer.{success, refusal}
 use Rattle.stuffing.specs.Stuffing.{unstuff}
-use Rattle.bits.specs.TrailingLaws.{Trails, trails-inside}
+use Rattle.bits.specs.TrailingLaws.{trails-inside}
 use Rattle.vps_definition.specs.Rules.{Rules}
-use Rattle.vps_definition.specs.Syntax.{Span, span, spans, run}
-use Rattle.vps_definition.specs.Syntax.Outcome.{accepted}
+use Rattle.vps_definition.specs.Syntax.{spans, run}
 use Rattle.vps_definition.specs.Vps.{vpsUnder}
 use Rattle.vps_definition.specs.Layout.{fromSection, entryLength, idsFrom, layerIds}
-use Rattle.vps_definition.specs.Reading.{extensionBits, closedSpans, rbspSpansUnder, readRbspUnder, most-rbsp-bytes, readUnitUnder}
+use Rattle.vps_definition.specs.Reading.{closedSpans, rbspSpansUnder, readRbspUnder, most-rbsp-bytes, readUnitUnder}
 use Rattle.vps_definition.specs.Reading.Reading.{accepts}
 use Rattle.vps_definition.specs.Writing.{unitOf, writeRecordUnder, wellFormedUnder}
-use Rattle.vps_laws.specs.Reading.{Each, each-join, Within, spans-inside}
+use Rattle.vps_laws.specs.Reading.{Each, Within, Gapless, spans-gapless, gapless-join, gapless-inside}
 use Rattle.vps_laws.specs.Keeps.{Below}
 use Rattle.vps_laws.specs.Units.{Parts, rbsp-parts, Accepted, unit-accepted, written-read}
 use Rattle.vps_laws.specs.Accepted.{Rewritten, rbsp-rewritten}
@@ -89,17 +88,16 @@ each-so : {A : Type 0} (P Q : A → Type 0) (l : List A) → ((a : A) → P a �
 each-so P Q [] f h = tt
 each-so P Q (a ∷ l) f h = (f a (h .0), each-so P Q l f (h .1))
 
-pub bits-counted : (rules : Rules) (s r : List ℕ) (n : ℕ) → readRbspUnder rules s ≡ accepts r n → (n ≤ 8 * length s) × Each (λ sp. sp .to ≤ n) (rbspSpansUnder rules s)
+-- the table's bits, the extension's and the trailing bits, from the first bit to the last one used
+pub spans-used : (rules : Rules) (s r : List ℕ) (n : ℕ) → readRbspUnder rules s ≡ accepts r n → Gapless 0 (rbspSpansUnder rules s) n
 unfolding rbspSpansUnder closedSpans
-bits-counted rules s r n e =
+spans-used rules s r n e =
+    let m = vpsUnder rules in
     let P = rbsp-parts rules s r n e in
-    let at : ℕ = P .behind in
-    let m : ℕ = extensionBits (getD (P .general) 8 0) s at in
-    let T = P .ends in
-    let b = T .behind in
-    let l : at ≤ n = omega arith in (
-      trails-inside s (at + m) n T,
-      each-join (λ sp. sp .to ≤ n) (spans (vpsUnder rules) s 0) (closedSpans s (run (vpsUnder rules) s 0))
-          (each-so (Within 0 at) (λ sp. sp .to ≤ n) (spans (vpsUnder rules) s 0) (λ sp h. omega (arith, h .2)) (spans-inside (vpsUnder rules) s 0 (P .reads)))
-          (rw (P .reads) (omega arith, (omega arith, tt))),
-    )
+    gapless-join 0 (P .behind) n (spans m s 0) (closedSpans s (run m s 0)) (spans-gapless m s 0 (P .reads)) (rw (P .reads) (refl, (omega arith, (refl, (omega arith, sym (P .ends .behind))))))
+
+pub bits-counted : (rules : Rules) (s r : List ℕ) (n : ℕ) → readRbspUnder rules s ≡ accepts r n → (n ≤ 8 * length s) × Each (λ sp. sp .to ≤ n) (rbspSpansUnder rules s)
+bits-counted rules s r n e = (
+  trails-inside s _ n (rbsp-parts rules s r n e .ends),
+  each-so (Within 0 n) (λ sp. sp .to ≤ n) (rbspSpansUnder rules s) (λ sp h. h .2) (gapless-inside 0 0 n (rbspSpansUnder rules s) (omega arith) (spans-used rules s r n e)),
+)

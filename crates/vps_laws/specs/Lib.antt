@@ -21,6 +21,7 @@ pub mod Places
 pub mod TimingViews
 pub mod Laid
 pub mod Claims
+pub mod UsedBits
 pub mod SlotViews
 pub mod ByNumber
 pub mod Views

@@ -6,18 +6,19 @@ use mathlib.Core.Path.{_≡_, sym, ap, _∙_}
 use mathlib.Core.List.{List, _++_}
 use mathlib.Core.Bool.{true}
 use mathlib.Core.Logic.{_↔_}
-use lib.ListN.{length, getD, drop}
+use lib.ListN.{length, getD, take, drop}
 use Rattle.refusals.specs.Answer.Answer.{success}
 use Rattle.stuffing.specs.Stuffing.{unstuff}
+use Rattle.bits.specs.FieldLaws.{Agree}
 use Rattle.vps_definition.specs.Rules.{today}
 use Rattle.vps_definition.specs.Layout.{layerIds, ptlCount, setCount, ptlIndices, dpbCount, multiCount, dpbIndices, timingFlag, timingCount, timingIndices}
 use Rattle.vps_definition.specs.Reading.{rbspSpans, most-rbsp-bytes, readUnit}
 use Rattle.vps_definition.specs.Reading.Reading.{accepts}
 use Rattle.vps_definition.specs.Writing.{writeRecord, wellFormed}
-use Rattle.vps_laws.specs.Reading.{Each}
+use Rattle.vps_laws.specs.Reading.{Each, Gapless}
 use Rattle.vps_laws.specs.Units.{written-read, written-once}
-use Rattle.vps_laws.specs.Accepted.{unit-appended}
-use Rattle.vps_laws.specs.Claims.{ids-many, rising, below, accepted-reads, accepted-sound, accepted-written, written-well-formed, well-formed-written, bits-counted}
+use Rattle.vps_laws.specs.Claims.{ids-many, rising, below, accepted-reads, accepted-sound, accepted-written, written-well-formed, well-formed-written, spans-used, bits-counted}
+use Rattle.vps_laws.specs.UsedBits.{unit-used, unit-appended}
 
 -- 1. Every accepted unit's record is well formed and is written; what was written is accepted with that record,
 -- and the bits used are eight times its RBSP's bytes.
@@ -51,6 +52,10 @@ pub bits-inside : (u r : List ℕ) (n : ℕ) → readUnit u ≡ accepts r n
     → (n ≤ 8 * length (unstuff (drop 2 u))) × Each (λ taken. taken .to ≤ n) (rbspSpans (unstuff (drop 2 u)))
 bits-inside u r n e = bits-counted today (unstuff (drop 2 u)) r n (accepted-reads today u r n e)
 
+-- They are all bits from the first on, each taken once: those of the table, of the extension and the trailing bits, one behind the other.
+pub bits-used-are-the-spans : (u r : List ℕ) (n : ℕ) → readUnit u ≡ accepts r n → Gapless 0 (rbspSpans (unstuff (drop 2 u))) n
+bits-used-are-the-spans u r n e = spans-used today (unstuff (drop 2 u)) r n (accepted-reads today u r n e)
+
 -- 4. Two well-formed records have the same bytes exactly when they are the same list.
 pub same-bytes-same-record : (r r′ u u′ : List ℕ) → writeRecord r ≡ success u → writeRecord r′ ≡ success u′ → (u ≡ u′) ↔ (r ≡ r′)
 same-bytes-same-record r r′ u u′ e f = (λ q. written-once today r r′ u′ (e ∙ ap success q) f, λ q. same (sym e ∙ ap writeRecord q ∙ f))
@@ -58,7 +63,13 @@ same-bytes-same-record r r′ u u′ e f = (λ q. written-once today r r′ u′
     same : success u ≡ success u′ → u ≡ u′
     same q = cc
 
--- 5. Bytes appended to an accepted unit with extension flag 0, within the length limit, change nothing.
+-- 5. Only the bits used count, where the extension flag is 0: a unit with the same header and the same bits there, within the length
+-- limit, is accepted with the same record and the same bits used.
+pub only-used-bits-matter : (u v r : List ℕ) (n : ℕ) → readUnit u ≡ accepts r n → getD r 8 0 ≡ 0 → take 2 v ≡ take 2 u
+    → Agree (unstuff (drop 2 u)) (unstuff (drop 2 v)) n → length (unstuff (drop 2 v)) ≤ most-rbsp-bytes → readUnit v ≡ accepts r n
+only-used-bits-matter = unit-used today
+
+-- Bytes appended to an accepted unit with extension flag 0, within the length limit, change nothing.
 pub appended-bytes-change-nothing : (u x r : List ℕ) (n : ℕ) → readUnit u ≡ accepts r n → getD r 8 0 ≡ 0
     → length (unstuff (drop 2 (u ++ x))) ≤ most-rbsp-bytes → readUnit (u ++ x) ≡ accepts r n
 appended-bytes-change-nothing = unit-appended today

@@ -1,6 +1,6 @@
 -- Laws of reading, by induction over a reading that is accepted.
 use Prim.Native.Nat.{ℕ, _+_, _*_, _≤_, _<_}
-use mathlib.Core.Path.{_≡_, refl, sym, ap, _∙_}
+use mathlib.Core.Path.{_≡_, refl, sym, ap, _∙_, subst⁻¹}
 use mathlib.Core.List.{List, [], _∷_, _++_}
 use native.Mathlib.Omega.{arith}
 use lib.ListN.{length, length-append}
@@ -77,41 +77,37 @@ Within at next p = (at ≤ p .from) × (p .from ≤ p .to) × (p .to ≤ next)
 -- spans one behind the other, from a place up to another
 abbrev pub Gapless : ℕ → List Span → ℕ → Type 0
 Gapless at [] next = at ≡ next
-Gapless at (p ∷ l) next = (p .from ≡ at) × Gapless (p .to) l next
-
-reads-within : {A : Type 0} {m : Syntax A} {s : List ℕ} {at : ℕ} {a : A} {t : List Token} {next : ℕ} → Reads m s at a t next → (least : ℕ) → least ≤ at → Each (Within least next) (spans m s at)
-unfolding spans
-reads-within (read-field R) least l = ((l, omega arith, reads-grows R), reads-within R least (omega arith))
-reads-within (read-code {s} {at} {v} {behind} e R) least l =
-    let n = code-near s at v behind e in
-    rw (e, spans) ((l, omega arith, reads-grows R), reads-within R least (omega arith))
-reads-within (read-late R) least l = ((l, omega arith, reads-grows R), reads-within R least (omega arith))
-reads-within (read-keep R) least l = reads-within R least l
-reads-within (read-mark R) least l = reads-within R least l
-reads-within (pass-align R) least l = ((l, omega arith, reads-grows R), reads-within R least (omega arith))
-reads-within (read-align z R) least l = ((l, omega arith, reads-grows R), reads-within R least (omega arith))
-reads-within (read-first R) least l = reads-within R least l
-reads-within (read-second R) least l = reads-within R least l
-reads-within read-done least l = tt
-
--- no bit is taken before the place a reading starts at, or past the place it ends at
-pub spans-inside : {A : Type 0} {a : A} {t : List Token} {next : ℕ} (m : Syntax A) (s : List ℕ) (at : ℕ) → run m s at ≡ accepted a t next
-    → Each (Within at next) (spans m s at)
-spans-inside m s at e = reads-within (run-reads m s at e) at (omega arith)
+Gapless at (p ∷ l) next = (p .from ≡ at) × ((at ≤ p .to) × Gapless (p .to) l next)
 
 reads-gapless : {A : Type 0} {m : Syntax A} {s : List ℕ} {at : ℕ} {a : A} {t : List Token} {next : ℕ} → Reads m s at a t next → Gapless at (spans m s at) next
 unfolding spans
-reads-gapless (read-field R) = (refl, reads-gapless R)
-reads-gapless (read-code e R) = rw (e, spans) (refl, reads-gapless R)
-reads-gapless (read-late R) = (refl, reads-gapless R)
+reads-gapless (read-field R) = (refl, (omega arith, reads-gapless R))
+reads-gapless (read-code {s} {at} {v} {behind} e R) = let n = code-near s at v behind e in rw (e, spans) (refl, (omega arith, reads-gapless R))
+reads-gapless (read-late R) = (refl, (omega arith, reads-gapless R))
 reads-gapless (read-keep R) = reads-gapless R
 reads-gapless (read-mark R) = reads-gapless R
-reads-gapless (pass-align R) = (refl, reads-gapless R)
-reads-gapless (read-align z R) = (refl, reads-gapless R)
+reads-gapless (pass-align R) = (refl, (omega arith, reads-gapless R))
+reads-gapless (read-align z R) = (refl, (omega arith, reads-gapless R))
 reads-gapless (read-first R) = reads-gapless R
 reads-gapless (read-second R) = reads-gapless R
 reads-gapless read-done = refl
 
--- and each bit between the two is taken
+-- the bits taken are all bits from the place a reading starts at to the place it ends at
 pub spans-gapless : {A : Type 0} {a : A} {t : List Token} {next : ℕ} (m : Syntax A) (s : List ℕ) (at : ℕ) → run m s at ≡ accepted a t next → Gapless at (spans m s at) next
 spans-gapless m s at e = reads-gapless (run-reads m s at e)
+
+pub gapless-join : (at middle next : ℕ) (x y : List Span) → Gapless at x middle → Gapless middle y next → Gapless at (x ++ y) next
+gapless-join at middle next [] y e g = subst⁻¹ (λ (k : ℕ). Gapless k y next) e g
+gapless-join at middle next (p ∷ x) y h g = (h .0, (h .1 .0, gapless-join (p .to) middle next x y (h .1 .1) g))
+
+gapless-grows : (at next : ℕ) (l : List Span) → Gapless at l next → at ≤ next
+gapless-grows at next [] e = omega (arith, e)
+gapless-grows at next (p ∷ l) h = omega (arith, h .1 .0, gapless-grows (p .to) next l (h .1 .1))
+
+-- so none is taken before the one or past the other
+pub gapless-inside : (least at next : ℕ) (l : List Span) → least ≤ at → Gapless at l next → Each (Within least next) l
+gapless-inside least at next [] k h = tt
+gapless-inside least at next (p ∷ l) k h =
+    let e = h .0 in
+    let f = h .1 .0 in
+    ((omega (arith, e, k), omega (arith, e, f), gapless-grows (p .to) next l (h .1 .1)), gapless-inside least (p .to) next l (omega (arith, f, k)) (h .1 .1))
