@@ -16,3 +16,4 @@ pub mod RuleCases
 pub mod Layout
 pub mod Views
 pub mod ViewCases
+pub mod SpanCases
