@@ -12,7 +12,7 @@ use Rattle.vps_definition.specs.Reading.{readUnit}
 use Rattle.vps_definition.specs.Reading.Reading.{accepts}
 use Rattle.vps_definition.specs.Writing.{unitOf, writeRecord}
 use Rattle.vps_laws.specs.Bound.{record-length}
-use Rattle.vps_c.specs.Written.{of-record}
+use Rattle.vps_laws.specs.Records.{of-record}
 
 pub record-enough : (u r : List ℕ) (n : ℕ) → readUnit u ≡ accepts r n → length r ≤ 535855
 record-enough = record-length today
@@ -24,7 +24,7 @@ Short (refusal k) = Unit {0}
 
 record-short : (r : List ℕ) → Short (writeRecord r)
 unfolding unitOf
-record-short r = of-record Short tt (λ rbsp l. omega (arith, stuff-length rbsp, l)) r
+record-short r = of-record today Short tt (λ rbsp l. omega (arith, stuff-length rbsp, l)) r
 
 pub unit-enough : (r u : List ℕ) → writeRecord r ≡ success u → length u ≤ 98304
 unit-enough r u e = subst Short e (record-short r)

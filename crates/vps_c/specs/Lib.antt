@@ -1,4 +1,3 @@
 pub mod Calls
 pub mod Lengths
 pub mod Success
-pub mod Written

@@ -20,9 +20,9 @@ use Rattle.vps_definition.specs.Writing.{writeRecord}
 use Rattle.vps_reader.specs.Parse.{Parse, parseNumber, Parsed, parseOf, parseRbsp, parsePayload, parseUnit}
 use Rattle.vps_reader.specs.Parse.Parse.{accepted, too-short, refused}
 use Rattle.vps_writer.specs.Write.{writeOf}
+use Rattle.vps_laws.specs.Records.{of-record}
 use Rattle.vps_laws.specs.Says.{Said, Among, TableSaid, ReadingSays, rbsp-says}
 use Rattle.vps_c.specs.Calls.{numberOf}
-use Rattle.vps_c.specs.Written.{of-record}
 
 clash : {A : Type 0} → _≡_ {A = ℕ} 0 1 → A
 clash e = absurd (omega arith)
@@ -106,7 +106,7 @@ lent-late s out = go (leb (length s) (length out))
     go false = omega arith
 
 record-late : (r : List ℕ) → Late (writeRecord r)
-record-late r = of-record Late (omega arith) (λ rbsp l. tt) r
+record-late r = of-record today Late (omega arith) (λ rbsp l. tt) r
 
 write-late : (out r : List ℕ) → Late (writeOf out (writeRecord r))
 unfolding writeOf

@@ -9,6 +9,7 @@ pub mod Coherence
 pub mod OutputLayerSets
 pub mod Extension
 pub mod Units
+pub mod Records
 pub mod Sections
 pub mod Tables
 pub mod Heads
