@@ -1,7 +1,5 @@
 // Section lookup: the sections of a lent record, as parts of that record.
-ghost use mathlib.Core.Path.{_≡_};
-ghost use Prim.Native.Nat.{_+_};
-ghost use Rattle.vps_definition.specs.Lookup.{sectionStart, sectionEnd, sectionOf};
+ghost use Rattle.vps_sections.specs.Parts.{IsPart, PartOf};
 
 // A part of a record: the index of its first number, and how many there are.
 pub struct Part {
@@ -16,7 +14,7 @@ impl Part {
 
 // Which part of a record a section is. Of a list that is not well formed, and of a number over 8, it is the empty part at the end.
 pub fn section_part(record: &[u32], number: u32) -> Part
-    ensures { λ r. ⌜ (r .start ≡ sectionStart (now («record» .entry)) number) × (r .start + r .count ≡ sectionEnd (now («record» .entry)) number) ⌝ }
+    ensures { λ r. ⌜ IsPart (now («record» .entry)) number (r .start) (r .count) ⌝ }
 {
     if Part::LAST < number {
         return Part {
@@ -38,9 +36,9 @@ pub fn section_part(record: &[u32], number: u32) -> Part
     }
 }
 
-// A section's numbers, in the caller's own record.
+// A section's numbers: the part of the caller's own record where they stand.
 pub fn section(record: &[u32], number: u32) -> &[u32]
-    ensures { λ r. ⌜ now r ≡ sectionOf (now («record» .entry)) number ⌝ }
+    ensures { λ r. ⌜ PartOf (now («record» .entry)) number («record» .entry .ptr) (r .ptr) (now r) ⌝ }
 {
     let part = section_part(record, number);
     let start = part.start;
