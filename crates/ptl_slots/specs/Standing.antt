@@ -1,6 +1,6 @@
 -- Numbers that stand in the record's rest, and zeros past its end.
 use Prim.Native.Nat.{ℕ, zero, suc, _+_, _-_, _≤_, _<_}
-use mathlib.Core.Path.{_≡_, refl, sym, ap, ap₂, _∙_}
+use mathlib.Core.Path.{_≡_, refl, sym, ap, ap₂, _∙_, subst}
 use mathlib.Core.List.{List, [], _∷_, _++_}
 use mathlib.Core.Bool.{Bool, true, false}
 use mathlib.Core.Logic.{_⊎_, inl, inr}
@@ -44,6 +44,12 @@ pub record Reaches (rec : List ℕ) (at count r : ℕ) : Type 0 where
   pub there : r ≤ length rec - at
   pub ends : r < count → length rec ≤ at + r
 
+-- a place r behind another, from which on y stands in the record: as many numbers on as y has fewer. At the record's end
+-- nothing stands, and from there on a place moves no further.
+pub record Behind (rec : List ℕ) (at r : ℕ) (y : List ℕ) : Type 0 where
+  pub rest : drop r rec ≡ y
+  pub place : r ≡ at + (length (drop at rec) - length y)
+
 -- behind those it has as behind all
 pub reach-drop : {rec : List ℕ} {at count r : ℕ} → Reaches rec at count r → drop (at + r) rec ≡ drop count (drop at rec)
 reach-drop {rec} {at} {count} {r} R = go (eq-or-lt-of-le (R .few)) ∙ sym (drop-behind at count rec)
@@ -53,6 +59,31 @@ reach-drop {rec} {at} {count} {r} R = go (eq-or-lt-of-le (R .few)) ∙ sym (drop
     go (inr l) =
         let h : length rec ≤ at + count = omega (arith, R .ends l) in
         drop-of-length-le rec (R .ends l) ∙ sym (drop-of-length-le rec h)
+
+module _ {rec : List ℕ} {at : ℕ} where
+  -- a place that lies on, and past the end only where it did before
+  lies-behind : {r : ℕ} {y : List ℕ} → drop r rec ≡ y → at ≤ r → r ≤ at + (length rec - at) → Behind rec at r y
+  lies-behind {r} {y} e l m =
+      record { rest = e; place = omega (arith, length-drop at rec, length-drop r rec, ap length e) }
+
+  pub behind-none : Behind rec at at (drop at rec)
+  behind-none = lies-behind refl (omega arith) (omega arith)
+
+  -- as far as the record goes
+  pub behind-reached : {count r : ℕ} → Reaches rec at count r → Reaches rec at count r × Behind rec at (at + r) (drop count (drop at rec))
+  behind-reached R = (R, lies-behind (reach-drop R) (omega arith) (omega (arith, R .there)))
+
+  -- one skip behind another
+  pub behind-then : {r r₁ : ℕ} {y y₁ : List ℕ} → Behind rec at r y → Behind rec r r₁ y₁ → Behind rec at r₁ y₁
+  behind-then {r} {r₁} B C =
+      lies-behind (C .rest) (omega (arith, B .place, C .place)) (omega (arith, B .place, C .place, length-drop at rec, length-drop r rec))
+
+  pub behind-to : {r : ℕ} {y z : List ℕ} → y ≡ z → Behind rec at r y → Behind rec at r z
+  behind-to {r} e B = subst (Behind rec at r) e B
+
+  -- what stands there is what stands there
+  pub behind-rest : {r : ℕ} {y : List ℕ} → Behind rec at r y → Behind rec at r (drop r rec)
+  behind-rest B = behind-to (sym (B .rest)) B
 
 -- ── More numbers, and fewer ───────────────────────────────────────────
 pub length-standing : (n i : ℕ) (x : List ℕ) → length (standing n i x) ≡ n

@@ -1,11 +1,11 @@
 // Finds where the slots of the PTL section stand in a record, unchecked.
 ghost use mathlib.Core.Path.{_≡_};
-ghost use Prim.Native.Nat.{_<_, _^_};
+ghost use Prim.Native.Nat.{_+_, _<_, _^_};
 ghost use lib.Dec.{eqb};
 ghost use lib.ListN.{length, getD, drop};
 ghost use Rattle.vps_definition.specs.Words.{when, sum};
 ghost use Rattle.vps_definition.specs.ProfileTierLevel.{numberOf, general-constraints-info, sub-profiles};
-ghost use Rattle.ptl_slots.specs.Standing.{standing, Reaches, Capped};
+ghost use Rattle.ptl_slots.specs.Standing.{standing, Reaches, Behind, Capped};
 ghost use Rattle.ptl_slots.specs.Skims.{Skims};
 ghost use Rattle.ptl_slots.specs.Slot.{nextSlot, moreConstraints, frontOf};
 
@@ -24,7 +24,7 @@ pub fn number_from(rec: &[u32], at: usize, j: usize) -> u32
 
 // How many of so many numbers from a place on the record has.
 fn reached(rec: &[u32], at: usize, count: usize) -> usize
-    ensures { λ r. ⌜ Reaches (now (rec .entry)) at count r ⌝ }
+    ensures { λ r. ⌜ Reaches (now (rec .entry)) at count r × Behind (now (rec .entry)) at (at + r) (drop count (drop at (now (rec .entry)))) ⌝ }
 {
     if rec.len() <= at {
         return 0;
@@ -35,9 +35,9 @@ fn reached(rec: &[u32], at: usize, count: usize) -> usize
     count
 }
 
-// The place behind so many numbers; past the record's end there is nothing.
+// The place behind so many numbers, or the record's end where it has fewer; a place past the end stays.
 pub fn skip_numbers(rec: &[u32], at: usize, count: usize) -> usize
-    ensures { λ r. ⌜ drop r (now (rec .entry)) ≡ drop count (drop at (now (rec .entry))) ⌝ }
+    ensures { λ r. ⌜ Behind (now (rec .entry)) at r (drop count (drop at (now (rec .entry)))) ⌝ }
 {
     at + reached(rec, at, count)
 }
@@ -80,7 +80,7 @@ pub fn more_constraints(rec: &[u32], at: usize) -> usize
 
 // The place behind the head, the profile and the tier, where they are present, the level, and two flags.
 fn skip_front(rec: &[u32], at: usize, present: u32) -> usize
-    ensures { λ r. ⌜ drop r (now (rec .entry)) ≡ drop (frontOf (eqb present 0)) (drop at (now (rec .entry))) ⌝ }
+    ensures { λ r. ⌜ Behind (now (rec .entry)) at r (drop (frontOf (eqb present 0)) (drop at (now (rec .entry)))) ⌝ }
 {
     if present == 0 {
         return skip_numbers(rec, at, 5);
@@ -90,7 +90,7 @@ fn skip_front(rec: &[u32], at: usize, present: u32) -> usize
 
 // The place behind the constraints.
 fn skip_constraints(rec: &[u32], at: usize, present: u32) -> usize
-    ensures { λ r. ⌜ Skims (when present general-constraints-info) (now (rec .entry)) (drop at (now (rec .entry))) tt (drop r (now (rec .entry))) ⌝ }
+    ensures { λ r. ⌜ Skims (when present general-constraints-info) (now (rec .entry)) (drop at (now (rec .entry))) tt (drop r (now (rec .entry))) × Behind (now (rec .entry)) at r (drop r (now (rec .entry))) ⌝ }
 {
     if present == 0 {
         return at;
@@ -104,7 +104,7 @@ fn skip_constraints(rec: &[u32], at: usize, present: u32) -> usize
 
 // The place behind the sublayers' flags and levels.
 fn skip_sublayers(rec: &[u32], at: usize, max_tid: u32) -> usize
-    ensures { λ r. ⌜ drop r (now (rec .entry)) ≡ drop (sum (standing «max_tid» 0 (drop at (now (rec .entry))))) (drop «max_tid» (drop at (now (rec .entry)))) ⌝ }
+    ensures { λ r. ⌜ Behind (now (rec .entry)) at r (drop (sum (standing «max_tid» 0 (drop at (now (rec .entry))))) (drop «max_tid» (drop at (now (rec .entry))))) ⌝ }
 {
     let levels = skip_numbers(rec, at, max_tid as usize);
     skip_numbers(rec, levels, sum_numbers(rec, at, max_tid))
@@ -112,7 +112,7 @@ fn skip_sublayers(rec: &[u32], at: usize, max_tid: u32) -> usize
 
 // The place behind the sub-profiles.
 fn skip_sub_profiles(rec: &[u32], at: usize, present: u32) -> usize
-    ensures { λ r. ⌜ Skims (when present sub-profiles) (now (rec .entry)) (drop at (now (rec .entry))) tt (drop r (now (rec .entry))) ⌝ }
+    ensures { λ r. ⌜ Skims (when present sub-profiles) (now (rec .entry)) (drop at (now (rec .entry))) tt (drop r (now (rec .entry))) × Behind (now (rec .entry)) at r (drop r (now (rec .entry))) ⌝ }
 {
     if present == 0 {
         return at;
@@ -121,9 +121,9 @@ fn skip_sub_profiles(rec: &[u32], at: usize, present: u32) -> usize
     skip_numbers(rec, first, number_from(rec, at, 0) as usize)
 }
 
-// The place of the slot behind the one at a place.
+// The place of the slot behind the one at a place, or the record's end; a place past the end stays.
 pub fn skip_slot(rec: &[u32], at: usize) -> usize
-    ensures { λ r. ⌜ drop r (now (rec .entry)) ≡ nextSlot (now (rec .entry)) (drop at (now (rec .entry))) ⌝ }
+    ensures { λ r. ⌜ Behind (now (rec .entry)) at r (nextSlot (now (rec .entry)) (drop at (now (rec .entry)))) ⌝ }
 {
     let present = number_from(rec, at, 0);
     let max_tid = number_from(rec, at, 1);

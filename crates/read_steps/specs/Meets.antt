@@ -5,6 +5,7 @@ use mathlib.Core.List.{List}
 use mathlib.Core.Bool.{Bool, true, false}
 use lib.ListN.{length}
 use lib.Seq.{sets}
+use Rattle.refusals.specs.Number.{not-well-formed}
 use Rattle.vps_definition.specs.Syntax.{Syntax, Token, numbers, Outcome, run}
 use Rattle.vps_definition.specs.Syntax.Outcome.{accepted, refused}
 use Rattle.read_steps.specs.declared.Cursor.{Cursor}
@@ -51,6 +52,9 @@ abbrev pub Tested : Cursor → Bool → Type 0
 Tested c true = Opens c
 Tested c false = Closes c
 
--- the cursor that is left where none is made
+-- the cursor that is left where none is made: at the same place, with the refusal that it had, or else with 31
 pub record Shuts (c c′ : Cursor) : Type 0 where
+  pub place : c′ .at ≡ c .at
+  pub cursor : c′ .n ≡ c .n
   pub stays : (c .refused ≡ 0 → ⊥) → c′ .refused ≡ c .refused
+  pub closes : c .refused ≡ 0 → c′ .refused ≡ not-well-formed

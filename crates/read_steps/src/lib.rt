@@ -61,7 +61,7 @@ pub fn is_open(c: Cursor) -> bool
     c.n < LIMIT
 }
 
-// A cursor that goes no further.
+// A cursor that goes no further: one that was refused stays as it is, another is refused where it stands.
 pub fn shut(c: Cursor) -> Cursor
     ensures { λ r. ⌜ Shuts c r ⌝ }
 {

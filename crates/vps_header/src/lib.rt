@@ -1,8 +1,9 @@
 // The VPS's first fields, and small answers that the first fields, the layers and the output layer sets go by, for reader and writer alike.
 ghost use mathlib.Core.Path.{_≡_};
 ghost use mathlib.Core.Bool.{_&&_, cond};
-ghost use Prim.Native.Nat.{_-_, _≤_};
+ghost use Prim.Native.Nat.{_-_};
 ghost use lib.Dec.{eqb};
+ghost use Rattle.vps_header.specs.AtMost.{AtMost};
 
 // The first fields of a VPS.
 pub struct Header {
@@ -15,7 +16,7 @@ pub struct Header {
 
 // A number, `most` at the most.
 pub fn capped(v: u32, most: u32) -> u32
-    ensures { λ r. ⌜ (r ≤ most) × (v ≤ most → r ≡ v) ⌝ }
+    ensures { λ r. ⌜ AtMost v most r ⌝ }
 {
     if v < most { v } else { most }
 }

@@ -22,6 +22,12 @@ abbrev pub Tested : Bool → ℕ → Place → Bool → Type 0
 Tested fits n p true = Opens fits n p
 Tested fits n p false = Closes fits n p
 
+-- a place that goes bad, as it stands
+pub record Spoils (p p′ : Place) : Type 0 where
+  pub bad : p′ .bad ≡ true
+  pub number : p′ .c ≡ p .c
+  pub bits : p′ .sink ≡ p .sink
+
 -- the bits b are pushed, and the record's next number is c
 pub record Pushed (fits : Bool) (b : List ℕ) (p : Place) (c : ℕ) (p′ : Place) (out out′ : List ℕ) : Type 0 where
   pub good : p .bad ≡ false

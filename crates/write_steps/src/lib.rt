@@ -1,12 +1,11 @@
 // A place in a record and a sink behind it, and the words of a syntax table that write no bits: each goes from a place to the next.
 ghost use mathlib.Core.Path.{_≡_};
 ghost use mathlib.Core.List.{List, []};
-ghost use mathlib.Core.Bool.{true};
 ghost use Prim.Native.Nat.{ℕ, _<_};
 ghost use Rattle.bit_sink.specs.Holds.{limit};
 ghost use Rattle.vps_definition.specs.Words.{inferred, check};
 ghost use Rattle.write_steps.specs.Does.{Ready, Does};
-ghost use Rattle.write_steps.specs.Pushes.{Tested};
+ghost use Rattle.write_steps.specs.Pushes.{Tested, Spoils};
 use bit_sink::Sink;
 
 // The bits of the longest RBSP.
@@ -45,14 +44,14 @@ pub struct Sent {
     pub next: Place,
 }
 
-// A bad place.
+// A place gone bad: the record's next number and the sink stay.
 pub fn spoiled(p: Place) -> Place
-    ensures { λ r. ⌜ r .bad ≡ true ⌝ }
+    ensures { λ r. ⌜ Spoils p r ⌝ }
 {
-    let sink = p.sink;
+    let pushed = p.sink;
     Place {
         c: p.c,
-        sink,
+        sink: pushed,
         bad: true,
         spare_1: 0,
         spare_2: 0,

@@ -1,5 +1,6 @@
 -- `skip_slot` meets its contract: the parts in the table's order.
 use Rattle.ptl_slots.specs.Slot.{skim-slot}
+use Rattle.ptl_slots.specs.Standing.{behind-then, behind-to}
 use lib.ListN.{drop}
 use borrow.Author.Needs.{needs}
 use Rattle.ptl_slots.proofs.skip_slot.Statement.{statement}
@@ -24,7 +25,9 @@ skip-sub-profiles-requires : tie.Need-skip-sub-profiles-requires
 skip-sub-profiles-requires c κs = search needs
 
 returns : tie.Need-returns
-returns c = skim-slot (drop (c .before .before .before .before .before .before .before .args .at) (c .before .before .before .before .before .before .before .args .rec .now)) (c .before .before .before .before .before .number-from .ensures) (c .before .before .before .before .number-from2 .ensures) (c .before .before .before .skip-front .ensures) (c .before .before .skip-constraints .ensures) (c .before .skip-sublayers .ensures) (c .skip-sub-profiles .ensures)
+returns c =
+    behind-to (skim-slot (drop (c .before .before .before .before .before .before .before .args .at) (c .before .before .before .before .before .before .before .args .rec .now)) (c .before .before .before .before .before .number-from .ensures) (c .before .before .before .before .number-from2 .ensures) (c .before .before .before .skip-front .ensures .rest) (c .before .before .skip-constraints .ensures .0) (c .before .skip-sublayers .ensures .rest) (c .skip-sub-profiles .ensures .0))
+    (behind-then (behind-then (behind-then (c .before .before .before .skip-front .ensures) (c .before .before .skip-constraints .ensures .1)) (c .before .skip-sublayers .ensures)) (c .skip-sub-profiles .ensures .1))
 
 pub skip-slot-spec : {M : Type 1} → statement M
 skip-slot-spec =

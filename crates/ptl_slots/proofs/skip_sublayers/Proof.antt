@@ -1,5 +1,5 @@
 -- `skip_sublayers` meets its contract: the flags, and as many levels as the flags say.
-use Rattle.ptl_slots.specs.Standing.{standing, capped-drop}
+use Rattle.ptl_slots.specs.Standing.{standing, capped-drop, behind-then, behind-to}
 use Rattle.vps_definition.specs.Words.{sum}
 use lib.ListN.{drop, length-drop}
 use mathlib.Core.Path.{ap, _∙_}
@@ -19,8 +19,9 @@ skip-numbers-requires-2 c κs = search needs
 
 returns : tie.Need-returns
 returns c =
-    c .skip-numbers2 .ensures ∙ capped-drop (c .before .sum-numbers .ensures) _ (omega (arith, length-drop (c .before .before .skip-numbers .result) (c .before .before .before .before .args .rec .now)))
-    ∙ ap (drop (sum (standing (c .before .before .before .before .args .max-tid) 0 (drop (c .before .before .before .before .args .at) (c .before .before .before .before .args .rec .now))))) (c .before .before .skip-numbers .ensures)
+    behind-to (capped-drop (c .before .sum-numbers .ensures) _ (omega (arith, length-drop (c .before .before .skip-numbers .result) (c .before .before .before .before .args .rec .now)))
+    ∙ ap (drop (sum (standing (c .before .before .before .before .args .max-tid) 0 (drop (c .before .before .before .before .args .at) (c .before .before .before .before .args .rec .now))))) (c .before .before .skip-numbers .ensures .rest))
+    (behind-then (c .before .before .skip-numbers .ensures) (c .skip-numbers2 .ensures))
 
 pub skip-sublayers-spec : {M : Type 1} → statement M
 skip-sublayers-spec =

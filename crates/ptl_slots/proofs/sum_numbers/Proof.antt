@@ -18,7 +18,7 @@ loop-holds : tie.Need-loop-holds Inv-loop μ-loop
 loop-holds c = summing-none
 
 returns : tie.Need-returns Inv-loop μ-loop
-returns c = capped-over (c .before .before .before .reached .ensures) (c .before .before .loop .inv) (c .if1 .taken)
+returns c = capped-over (c .before .before .before .reached .ensures .0) (c .before .before .loop .inv) (c .if1 .taken)
 
 number-from-requires : tie.Need-number-from-requires Inv-loop μ-loop
 number-from-requires c κs = search needs
@@ -39,7 +39,7 @@ loop-again : tie.Need-loop-again Inv-loop μ-loop
 loop-again c = summing-more (c .before .before .loop-test .taken) (c .number-from .ensures) (c .before .before .before .loop .inv)
 
 returns-2 : tie.Need-returns-2 Inv-loop μ-loop
-returns-2 c = capped-all (c .before .before .reached .ensures) (c .before .loop .inv) (c .loop-test .left)
+returns-2 c = capped-all (c .before .before .reached .ensures .0) (c .before .loop .inv) (c .loop-test .left)
 
 pub sum-numbers-spec : {M : Type 1} → statement M
 sum-numbers-spec =

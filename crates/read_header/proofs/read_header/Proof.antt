@@ -45,7 +45,7 @@ returns c =
     record {
       meets =
           λ rec.
-          meets-other (λ t next e. same-sublayers _ (c .before .before .capped .ensures .1 (header-most today .holds _ _ e .1)))
+          meets-other (λ t next e. same-sublayers _ (c .before .before .capped .ensures .exact (header-most today .holds _ _ e .1)))
           (meets-then _ _ (meets-general 1 4 rec (c .before .before .before .before .before .before .before .before .before .before .before .before .before .take-late .ensures))
           (meets-then _ _ (c .before .before .before .before .before .before .before .before .before .before .before .before .take-late-within .ensures .1 _ rec refl)
           (meets-then _ _ (meets-general 2 3 rec (λ find r. c .before .before .before .before .before .before .before .before .before .before .before .take-late-within2 .ensures .1 find r refl))
@@ -55,7 +55,7 @@ returns c =
           meets-done))))));
       one-layer = omega arith;
       layers-64 = omega (arith, c .before .before .before .before .before .before .before .before .before .before .before .before .take-late-within .ensures .0);
-      sublayers-7 = c .before .before .capped .ensures .0;
+      sublayers-7 = c .before .before .capped .ensures .within;
     }
 
 pub read-header-spec : {M : Type 1} → statement M

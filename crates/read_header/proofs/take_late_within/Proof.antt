@@ -11,7 +11,7 @@ capped-requires : tie.Need-capped-requires
 capped-requires c κs = search needs
 
 returns : tie.Need-returns
-returns c = (c .capped .ensures .0, λ find rec e. meets-late-within e (c .capped .ensures .1) (c .before .before .take-late .ensures find rec))
+returns c = (c .capped .ensures .within, λ find rec e. meets-late-within e (c .capped .ensures .exact) (c .before .before .take-late .ensures find rec))
 
 pub take-late-within-spec : {M : Type 1} → statement M
 take-late-within-spec = tie.close (tie.spec take-late-requires capped-requires returns)

@@ -14,7 +14,7 @@ same-length : tie.Need-same-length
 same-length c = search needs
 
 returns : tie.Need-returns
-returns c = (c .capped .ensures .0, λ e. meets-u-within _ e (c .capped .ensures .1) (c .before .before .before .before .take .ensures))
+returns c = (c .capped .ensures .within, λ e. meets-u-within _ e (c .capped .ensures .exact) (c .before .before .before .before .take .ensures))
 
 pub take-within-spec : {M : Type 1} → statement M
 take-within-spec = tie.close (tie.spec take-requires capped-requires same-length returns)

@@ -25,7 +25,7 @@ capped-requires : tie.Need-capped-requires
 capped-requires c κs = search needs
 
 add-sublayers : tie.Need-add-sublayers
-add-sublayers c = omega (arith, c .capped .ensures .0)
+add-sublayers c = omega (arith, c .capped .ensures .within)
 
 read-references-requires : tie.Need-read-references-requires
 read-references-requires c κs = search needs
@@ -39,7 +39,7 @@ same-length c = search (needs, c .before .before .before .before .before .before
 returns : tie.Need-returns
 unfolding layer
 returns c refs h l =
-    let F = c .before .before .before .before .read-references .ensures (c .before .before .before .before .before .before .before .before .before .before .before .before .before .before .before .before .before .before .before .before .before .args .h .«max_sublayers_minus1») (ap (λ (x : ℕ). x + 1) (c .before .before .before .before .before .before .capped .ensures .1 h)) l in
+    let F = c .before .before .before .before .read-references .ensures (c .before .before .before .before .before .before .before .before .before .before .before .before .before .before .before .before .before .before .before .before .before .args .h .«max_sublayers_minus1») (ap (λ (x : ℕ). x + 1) (c .before .before .before .before .before .before .capped .ensures .exact h)) l in
     record {
       flags = F .flags;
       meets =

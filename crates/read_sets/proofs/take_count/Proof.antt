@@ -15,7 +15,7 @@ same-length : tie.Need-same-length
 same-length c = search needs
 
 returns : tie.Need-returns
-returns c = (c .capped .ensures .0, meets-minus1-within 8 refl (c .capped .ensures .1) (c .before .before .before .before .take-minus1 .ensures))
+returns c = (c .capped .ensures .within, meets-minus1-within 8 refl (c .capped .ensures .exact) (c .before .before .before .before .take-minus1 .ensures))
 
 pub take-count-spec : {M : Type 1} → statement M
 take-count-spec = tie.close (tie.spec take-minus1-requires capped-requires same-length returns)

@@ -16,7 +16,7 @@ spoiled-requires : tie.Need-spoiled-requires
 spoiled-requires c κs = search needs
 
 returns : tie.Need-returns
-returns c = pushes-none (c .before .before .takes .result) (c .before .before .takes .ensures) (c .before .if1 .taken) refl (λ f. c .before .before .before .code-bits .ensures (ltb-true _ _ f)) (c .spoiled .ensures)
+returns c = pushes-none (c .before .before .takes .result) (c .before .before .takes .ensures) (c .before .if1 .taken) refl (λ f. c .before .before .before .code-bits .ensures (ltb-true _ _ f)) (c .spoiled .ensures .bad)
 
 put-code-requires : tie.Need-put-code-requires
 put-code-requires c κs = search needs

@@ -32,7 +32,7 @@ same-length : tie.Need-same-length
 same-length c = search (needs, c .before .before .before .before .before .before .before .before .write-fixed, c .before .before .write-fields)
 
 returns : tie.Need-returns
-returns c = does-constraints (c .before .before .before .before .before .before .before .before .before .before .more-constraints .ensures .0) (c .before .before .before .before .before .before .before .before .before .before .before .skip-numbers .ensures) (c .before .before .before .before .before .before .before .before .write-fixed .ensures) (c .before .before .before .before .before .keep .ensures) (c .before .before .before .before .keep-standing .ensures) (c .before .before .write-fields .ensures)
+returns c = does-constraints (c .before .before .before .before .before .before .before .before .before .before .more-constraints .ensures .0) (c .before .before .before .before .before .before .before .before .before .before .before .skip-numbers .ensures .rest) (c .before .before .before .before .before .before .before .before .write-fixed .ensures) (c .before .before .before .before .before .keep .ensures) (c .before .before .before .before .keep-standing .ensures) (c .before .before .write-fields .ensures)
 
 pub write-constraints-spec : {M : Type 1} → statement M
 write-constraints-spec =

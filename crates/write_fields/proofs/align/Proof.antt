@@ -20,7 +20,7 @@ spoiled-requires c κs = search needs
 
 returns : tie.Need-returns
 unfolding numbers
-returns c number rec = does-push _ (pushes-none (c .before .before .takes .result) (c .before .before .takes .ensures) (c .before .if1 .taken) refl (λ f. sym (length-replicate {A = ℕ} _ 0)) (c .spoiled .ensures)) (sym (add-zero _)) (aligned-emits number rec _ _)
+returns c number rec = does-push _ (pushes-none (c .before .before .takes .result) (c .before .before .takes .ensures) (c .before .if1 .taken) refl (λ f. sym (length-replicate {A = ℕ} _ 0)) (c .spoiled .ensures .bad)) (sym (add-zero _)) (aligned-emits number rec _ _)
 
 put-zeros-to-boundary-requires : tie.Need-put-zeros-to-boundary-requires
 put-zeros-to-boundary-requires c κs = search needs

@@ -19,7 +19,7 @@ spoiled-requires : tie.Need-spoiled-requires
 spoiled-requires c κs = search needs
 
 returns : tie.Need-returns
-returns c = pushes-none (c .before .before .takes .result) (c .before .before .takes .ensures) (c .before .if1 .taken) (c .before .before .before .before .is-field .ensures) (λ f. c .before .before .before .field-bits .ensures ∙ sym (bits-length _ (c .before .before .before .before .before .before .args .value))) (c .spoiled .ensures)
+returns c = pushes-none (c .before .before .takes .result) (c .before .before .takes .ensures) (c .before .if1 .taken) (c .before .before .before .before .is-field .ensures) (λ f. c .before .before .before .field-bits .ensures ∙ sym (bits-length _ (c .before .before .before .before .before .before .args .value))) (c .spoiled .ensures .bad)
 
 put-requires : tie.Need-put-requires
 put-requires c κs = search needs

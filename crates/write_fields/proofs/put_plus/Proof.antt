@@ -11,7 +11,7 @@ spoiled-requires c κs = search needs
 
 returns : tie.Need-returns
 unfolding emit
-returns c = does-none (c .spoiled .ensures) (c .before .if1 .taken) (λ at. refl)
+returns c = does-none (c .spoiled .ensures .bad) (c .before .if1 .taken) (λ at. refl)
 
 mul-v : tie.Need-mul-v
 mul-v c = search needs
@@ -23,7 +23,7 @@ spoiled-requires-2 : tie.Need-spoiled-requires-2
 spoiled-requires-2 c κs = search needs
 
 returns-2 : tie.Need-returns-2
-returns-2 c = does-bad (c .spoiled2 .ensures) (field-low _ _ (c .before .before .before .if1 .left) _ _ (c .before .if2 .taken))
+returns-2 c = does-bad (c .spoiled2 .ensures .bad) (field-low _ _ (c .before .before .before .if1 .left) _ _ (c .before .if2 .taken))
 
 add-push-field : tie.Need-add-push-field
 add-push-field c = search needs

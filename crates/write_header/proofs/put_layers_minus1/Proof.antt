@@ -27,8 +27,8 @@ same-length c = search needs
 
 returns : tie.Need-returns
 returns c = (
-  c .capped .ensures .0,
-  does-other {Q = λ (v : ℕ) (t : List Token). v < 64} _ (keeps-late (λ v l. keeps-done l)) (c .before .before .before .before .put-late .ensures _ _ (sym (c .before .before .before .before .before .one-less .ensures ∙ ap (λ (x : ℕ). x - 1) (c .before .before .before .before .before .before .number-at .ensures)))) (λ H. sym (c .capped .ensures .1 (omega (arith, H .keeps)))),
+  c .capped .ensures .within,
+  does-other {Q = λ (v : ℕ) (t : List Token). v < 64} _ (keeps-late (λ v l. keeps-done l)) (c .before .before .before .before .put-late .ensures _ _ (sym (c .before .before .before .before .before .one-less .ensures ∙ ap (λ (x : ℕ). x - 1) (c .before .before .before .before .before .before .number-at .ensures)))) (λ H. sym (c .capped .ensures .exact (omega (arith, H .keeps)))),
 )
 
 pub put-layers-minus1-spec : {M : Type 1} → statement M

@@ -17,7 +17,7 @@ same-length : tie.Need-same-length
 same-length c = search needs
 
 returns : tie.Need-returns
-returns c = (c .capped .ensures .0, λ e. does-other _ (keeps-u _) (c .before .before .before .before .put .ensures) (λ H. sym (c .capped .ensures .1 (omega (arith, e, H .keeps .1)))))
+returns c = (c .capped .ensures .within, λ e. does-other _ (keeps-u _) (c .before .before .before .before .put .ensures) (λ H. sym (c .capped .ensures .exact (omega (arith, e, H .keeps .1)))))
 
 pub put-within-spec : {M : Type 1} → statement M
 put-within-spec = tie.close (tie.spec put-requires capped-requires same-length returns)

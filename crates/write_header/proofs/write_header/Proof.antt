@@ -43,7 +43,7 @@ unfolding headerUnder ruled
 returns c =
     record {
       does =
-          does-header-capped _ (c .before .before .capped .ensures .1)
+          does-header-capped _ (c .before .before .capped .ensures .exact)
           (does-then _ _ (c .before .before .before .before .before .before .before .before .before .before .before .before .before .before .before .before .before .before .before .before .before .before .before .before .before .before .before .put-general .ensures)
           (does-then _ _ (c .before .before .before .before .before .before .before .before .before .before .before .before .before .before .before .before .before .before .before .before .before .before .before .put-layers-minus1 .ensures .1)
           (does-then _ _ (c .before .before .before .before .before .before .before .before .before .before .before .before .before .before .before .before .before .before .before .put-general2 .ensures)
@@ -53,7 +53,7 @@ returns c =
           does-done))))));
       one-layer = omega arith;
       layers-64 = omega (arith, c .before .before .before .before .before .before .before .before .before .before .before .before .before .before .before .before .before .before .before .before .before .before .before .put-layers-minus1 .ensures .0);
-      sublayers-7 = c .before .before .capped .ensures .0;
+      sublayers-7 = c .before .before .capped .ensures .within;
     }
 
 pub write-header-spec : {M : Type 1} → statement M

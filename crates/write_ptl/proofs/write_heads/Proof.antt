@@ -34,7 +34,7 @@ loop-less : tie.Need-loop-less Inv-loop μ-loop
 loop-less c = search needs
 
 loop-again : tie.Need-loop-again Inv-loop μ-loop
-loop-again c = heading-more (c .before .before .before .before .before .before .before .loop .inv) (c .before .before .before .before .before .before .loop-test .taken) (search (needs, c .before .before .before .before .write-head)) (c .before .before .before .before .write-head .ensures) (c .skip-slot .ensures)
+loop-again c = heading-more (c .before .before .before .before .before .before .before .loop .inv) (c .before .before .before .before .before .before .loop-test .taken) (search (needs, c .before .before .before .before .write-head)) (c .before .before .before .before .write-head .ensures) (c .skip-slot .ensures .rest)
 
 same-length-2 : tie.Need-same-length-2 Inv-loop μ-loop
 same-length-2 c = c .before .loop .inv .as-long

@@ -16,7 +16,7 @@ same-length : tie.Need-same-length
 same-length c = search needs
 
 returns : tie.Need-returns
-returns c = (c .capped .ensures .0, does-other _ (keeps-u-minus1 8) (c .before .before .before .before .put-minus1 .ensures) (λ H. sym (c .capped .ensures .1 (H .keeps .2))))
+returns c = (c .capped .ensures .within, does-other _ (keeps-u-minus1 8) (c .before .before .before .before .put-minus1 .ensures) (λ H. sym (c .capped .ensures .exact (H .keeps .2))))
 
 pub put-count-spec : {M : Type 1} → statement M
 put-count-spec = tie.close (tie.spec put-minus1-requires capped-requires same-length returns)

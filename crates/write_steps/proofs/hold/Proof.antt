@@ -17,7 +17,7 @@ spoiled-requires c κs = search needs
 
 returns-2 : tie.Need-returns-2
 unfolding check emit
-returns-2 c number rec out = does-no (c .before .if1 .left) (does-bad (c .spoiled .ensures) (λ at. refl))
+returns-2 c number rec out = does-no (c .before .if1 .left) (does-bad (c .spoiled .ensures .bad) (λ at. refl))
 
 pub hold-spec : {M : Type 1} → statement M
 hold-spec = tie.close (tie.spec returns spoiled-requires returns-2)

@@ -12,7 +12,7 @@ spoiled-requires c κs = search needs
 
 returns : tie.Need-returns
 unfolding emit inferred
-returns c out = does-none (c .spoiled .ensures) (c .before .if1 .taken) (λ at. refl)
+returns c out = does-none (c .spoiled .ensures .bad) (c .before .if1 .taken) (λ at. refl)
 
 mul-if2 : tie.Need-mul-if2
 mul-if2 c = search needs
@@ -24,7 +24,7 @@ spoiled-requires-2 : tie.Need-spoiled-requires-2
 spoiled-requires-2 c κs = search needs
 
 returns-2 : tie.Need-returns-2
-returns-2 c out = does-bad (c .spoiled2 .ensures) (other-emits _ _ (c .before .before .before .if1 .left) _ (c .before .if2 .taken))
+returns-2 c out = does-bad (c .spoiled2 .ensures .bad) (other-emits _ _ (c .before .before .before .if1 .left) _ (c .before .if2 .taken))
 
 add-t6 : tie.Need-add-t6
 add-t6 c = search needs
