@@ -76,8 +76,8 @@ code-refused s at n e = go (ltb k 32) (ltb (at + k) (8 * length s)) e
     go true false h z = absurd (let n : _≡_ {A = ℕ} 0 1 = cc in omega arith)
     go false b h z = let y : code-too-long ≡ n = cc in omega arith
 
-pub stops-code : {plus : ℕ} {s : List ℕ} {c : Cursor} {a k place n : ℕ} {rec rec′ : List ℕ} (r : Read.Read) → Opens c → readAnswer r ≡ readCode s (c .at) → r ≡ Read.the-variants.Refused k
-    → Meets (code plus done) s c a (record { at = place; n = n; refused = k; spare = 0 }) rec rec′
+pub stops-code : {plus : ℕ} {s : List ℕ} {c : Cursor} {a k place : ℕ} {rec : List ℕ} (r : Read.Read) → Opens c → readAnswer r ≡ readCode s (c .at) → r ≡ Read.the-variants.Refused k
+    → Meets (code plus done) s c a (record { at = place; n = c .n; refused = k; spare = 0 }) rec rec
 unfolding run
 stops-code {s = s} {c = c} {k = k} r o e i =
     let said : codeAt s (c .at) ≡ Code.Taken.refused k = code-said r s (c .at) (o .room .near) e ∙ ap readAnswer i in

@@ -1,10 +1,7 @@
 // Reads codes of a syntax table, each from a cursor to the next, and stores what the record keeps of them.
-ghost use mathlib.Core.Path.{_≡_};
-ghost use mathlib.Core.List.{List};
-ghost use Prim.Native.Nat.{ℕ};
-ghost use lib.ListN.{set};
+ghost use mathlib.Core.List.{[], _∷_};
 ghost use Rattle.vps_definition.specs.Words.{ue, ue-minus1, ue-if};
-ghost use Rattle.read_steps.specs.Meets.{Meets};
+ghost use Rattle.read_steps.specs.Meets.{Meets, Yields};
 use bit_reader::Read;
 use bit_reader::ReadPlace;
 use read_steps::Cursor;
@@ -101,7 +98,7 @@ pub fn take_code_if(bytes: &[u8], rec: &mut [u32], c: Cursor, coded: bool, other
 
 // ue(v) that the caller stores.
 pub fn see_code(bytes: &[u8], c: Cursor) -> Took
-    ensures { λ r. ⌜ ((rec : List ℕ) → Meets ue (now (bytes .entry)) c (r .v) (r .next) rec (set rec (c .n) (r .v))) ⌝ }
+    ensures { λ r. ⌜ Yields ue (now (bytes .entry)) c (r .v) (r .next) (r .v ∷ []) ⌝ }
 {
     if !is_open(c) {
         return Took {

@@ -20,8 +20,8 @@ module _ (w : ℕ) {s : List ℕ} {c : Cursor} where
   unfolding repeat u nothing _>>=_
   fields-turn i M N = meets-turn (λ i x. kept-field w) i tt M (meets-then (u w) (λ v. nothing) N meets-done)
 
-  pub fields-break : (n i : ℕ) {c₁ : Cursor} {rec rec₁ rec₂ : List ℕ} → i ≤ n → (c₁ .refused ≡ 0 → ⊥) → Meets (repeat i (kept-field w)) s c tt c₁ rec rec₁
-      → Meets (repeat n (kept-field w)) s c tt c₁ rec rec₂
+  pub fields-break : (n i : ℕ) {c₁ : Cursor} {rec rec₁ : List ℕ} → i ≤ n → (c₁ .refused ≡ 0 → ⊥) → Meets (repeat i (kept-field w)) s c tt c₁ rec rec₁
+      → Meets (repeat n (kept-field w)) s c tt c₁ rec rec₁
   unfolding repeat
   fields-break n i l h M = meets-break (λ i x. kept-field w) n i tt l h M
 

@@ -1,6 +1,7 @@
 // Reads picture buffers: dpb_parameters() and what the VPS says about each set's buffer.
 ghost use mathlib.Core.Path.{_≡_};
-ghost use Prim.Native.Nat.{_≤_, _<_, _^_};
+ghost use Prim.Native.Nat.{_-_, _≤_, _<_};
+ghost use lib.ListN.{take};
 ghost use lib.Seq.{sets};
 ghost use Rattle.refusals.specs.Number.{dpb-max-tid};
 ghost use Rattle.vps_definition.specs.Words.{loop, repeat};
@@ -40,29 +41,31 @@ fn read_dpb_sublayer(bytes: &[u8], c: Cursor) -> Triple
     }
 }
 
-// Stores a triple where the record has such places.
-fn store_row(rec: &mut [u32], n: usize, row: [u32; 3])
-    requires { ⌜ n < 2 ^ 63 ⌝ }
-    ensures { λ _. ⌜ now (rec .exit) ≡ sets (now (rec .entry)) n (triple row) ⌝ }
+// How many numbers lie from one to another, as many as a grid has at the most.
+fn between(from: usize, to: usize) -> usize
+    ensures { λ r. ⌜ (r ≤ 21) × (to - from ≤ 21 → r ≡ to - from) ⌝ }
 {
-    read_steps::store(rec, n, row[0]);
-    read_steps::store(rec, n + 1, row[1]);
-    read_steps::store(rec, n + 2, row[2]);
+    if to <= from {
+        return 0;
+    }
+    if to - from < 21 {
+        return to - from;
+    }
+    21
 }
 
-// Stores the first rows of a grid, one after another.
-fn store_dpb(rec: &mut [u32], n: usize, grid: [[u32; 3]; 7], rows: usize)
-    requires { ⌜ rows ≤ 7 ⌝ }
-    ensures { λ _. ⌜ ((0 < rows → n < limit) → now (rec .exit) ≡ sets (now (rec .entry)) n (triples rows grid)) ⌝ }
+// Stores the first numbers of a grid, one after another.
+fn store_dpb(rec: &mut [u32], n: usize, grid: [[u32; 3]; 7], count: usize)
+    requires { ⌜ count ≤ 21 ⌝ }
+    ensures { λ _. ⌜ ((0 < count → n < limit) → now (rec .exit) ≡ sets (now (rec .entry)) n (take count (triples 7 grid))) ⌝ }
 {
     if LIMIT <= n {
         return;
     }
-    let mut at = n;
     let mut i: usize = 0;
-    while i < rows {
-        store_row(rec, at, grid[i]);
-        at += 3;
+    while i < count {
+        let row = grid[i / 3];
+        read_steps::store(rec, n + i, row[i % 3]);
         i += 1;
     }
 }
@@ -74,7 +77,7 @@ fn at_most_seven(turns: u64) -> usize
     if turns < 7 { turns as usize } else { 7 }
 }
 
-// dpb_parameters(): the triples of up to seven sublayers, read into a grid and then stored.
+// dpb_parameters(): the triples of up to seven sublayers, read into a grid and then stored, as far as they were read.
 pub fn parse_dpb_parameters(bytes: &[u8], rec: &mut [u32], c: Cursor, turns: u64) -> Cursor
     ensures { λ r. ⌜ Meets (repeat (rows turns) dpb-sublayer) (now (bytes .entry)) c tt r (now (rec .entry)) (now (rec .exit)) ⌝ }
 {
@@ -89,7 +92,7 @@ pub fn parse_dpb_parameters(bytes: &[u8], rec: &mut [u32], c: Cursor, turns: u64
         next = triple.next;
         i += 1;
     }
-    store_dpb(rec, c.n, grid, rows);
+    store_dpb(rec, c.n, grid, between(c.n, next.n));
     next
 }
 

@@ -18,7 +18,7 @@ use Rattle.vps_laws.specs.Bind.{after, thenRead, run-bind}
 use Rattle.read_steps.specs.declared.Cursor.{Cursor}
 use Rattle.read_steps.specs.Fits.{limit, Fits, fits-first}
 use Rattle.read_steps.specs.Meets.{Went, After, Meets}
-use Rattle.read_steps.specs.Laws.{meets-as, meets-then, meets-done}
+use Rattle.read_steps.specs.Laws.{still, meets-as, meets-then, meets-done}
 use Rattle.read_constraints.specs.Silent.{run-silent, fits-silent}
 
 -- the n fields of w bits from a place on, the last of them first
@@ -113,7 +113,7 @@ module _ {s : List ℕ} {c : Cursor} (n w : ℕ) where
   -- who has kept them all, and goes on behind them, meets the table
   pub meets-reversed : {p j : ℕ} {c′ : Cursor} {rec rec′ : List ℕ} → j ≡ 0 → p ≡ c .at + n * w → Meets (keeps (fieldsBehind s (c .at) n w j)) s c tt c′ rec rec′
       → Meets (reversed n w) s c (fallingAt s (c .at) n w) (record { at = p; n = c′ .n; refused = c′ .refused; spare = 0 }) rec rec′
-  meets-reversed {p} {j} {c′} {rec} {rec′} z i M = record { goes = went; stays = M .stays }
+  meets-reversed {p} {j} {c′} {rec} {rec′} z i M = record { goes = went; stays = λ h. let S = M .stays h in record { same = S .same; cursor = S .cursor; kept = S .kept } }
     where
       went : c .refused ≡ 0 → Fits (reversed n w) s (c .at) (c .n) → After (run (reversed n w) s (c .at)) c (fallingAt s (c .at) n w) (record { at = p; n = c′ .n; refused = c′ .refused; spare = 0 }) rec rec′
       went e F =
@@ -127,7 +127,7 @@ module _ {s : List ℕ} {c : Cursor} (n w : ℕ) where
 pub reversed-far : {s : List ℕ} {c : Cursor} (n w : ℕ) {rec : List ℕ} → limit ≤ c .at → Meets (reversed n w) s c (fallingAt s (c .at) n w) c rec rec
 unfolding reversed falling fallingAt keeps nothing _>>=_ Fits
 reversed-far zero w h = meets-done
-reversed-far (suc n) w h = record { goes = λ e F. absurd (omega (arith, F .0 .near)); stays = λ k. refl }
+reversed-far (suc n) w h = record { goes = λ e F. absurd (omega (arith, F .0 .near)); stays = λ k. still }
 
 -- ── Flags ─────────────────────────────────────────────────────────────
 sum-last : (l : List ℕ) (v : ℕ) → sum (l ++ (v ∷ [])) ≡ sum l + v

@@ -6,8 +6,8 @@ use Rattle.vps_definition.specs.Syntax.{Syntax, _>>=_, Token, Outcome, run}
 use Rattle.vps_definition.specs.Syntax.Outcome.{accepted, refused}
 use Rattle.read_steps.specs.declared.Cursor.{Cursor}
 use Rattle.read_steps.specs.Fits.{Fits, fits-first}
-use Rattle.read_steps.specs.Meets.{After, Meets}
-use Rattle.read_steps.specs.Laws.{meets-then}
+use Rattle.read_steps.specs.Meets.{After, Still, Meets}
+use Rattle.read_steps.specs.Laws.{stays-then, meets-then}
 
 -- the result, where there is one
 abbrev pub resultOf : {A : Type 0} → Outcome A → A → A
@@ -19,10 +19,6 @@ pub record Accepted {A : Type 0} (x : Outcome A) (b : A) : Type 0 where
   pub kept : List Token
   pub next : ℕ
   pub is : x ≡ accepted (resultOf x b) kept next
-
--- two steps that each keep the refusal they find
-pub stays-both : {k k₁ k₂ : ℕ} → ((k ≡ 0 → ⊥) → k₁ ≡ k) → ((k₁ ≡ 0 → ⊥) → k₂ ≡ k₁) → (k ≡ 0 → ⊥) → k₂ ≡ k
-stays-both F G h = G (λ z. h (sym (F h) ∙ z)) ∙ F h
 
 module _ {A : Type 0} (m : Syntax A) {s : List ℕ} {c : Cursor} {a : A} {c′ : Cursor} {rec rec′ : List ℕ} (M : Meets m s c a c′ rec rec′) where
   -- the table itself says what the result is
@@ -43,8 +39,8 @@ module _ {A : Type 0} (m : Syntax A) {s : List ℕ} {c : Cursor} {a : A} {c′ :
 
   -- two tables in a row, the second of which counts on the first
   pub meets-when : {B : Type 0} {b : B} {c₂ : Cursor} {rec₂ : List ℕ} (f : A → Syntax B) → (c .refused ≡ 0 → Fits m s (c .at) (c .n) → c′ .refused ≡ 0 → Meets (f a) s c′ b c₂ rec′ rec₂)
-      → ((c′ .refused ≡ 0 → ⊥) → c₂ .refused ≡ c′ .refused) → Meets (m >>= f) s c b c₂ rec rec₂
+      → ((c′ .refused ≡ 0 → ⊥) → Still c′ c₂ rec′ rec₂) → Meets (m >>= f) s c b c₂ rec rec₂
   meets-when f N S = record {
     goes = λ e F. meets-then m f M (record { goes = λ o G. N e (fits-first m f s (c .at) (c .n) F) o .goes o G; stays = S }) .goes e F;
-    stays = stays-both (M .stays) S;
+    stays = stays-then (M .stays) S;
   }

@@ -19,8 +19,8 @@ use Rattle.vps_laws.specs.Heads.{headAt, head-last, heads-longer}
 use Rattle.ptl_tables.specs.Section.{sublayersOf, head-of}
 use Rattle.read_steps.specs.declared.Cursor.{Cursor}
 use Rattle.read_steps.specs.Fits.{Fits, fits-first, fits-second}
-use Rattle.read_steps.specs.Meets.{Went, After, Meets}
-use Rattle.read_steps.specs.Laws.{meets-as, meets-begin, meets-turn, meets-break}
+use Rattle.read_steps.specs.Meets.{Went, After, Still, Meets}
+use Rattle.read_steps.specs.Laws.{still, meets-as, meets-begin, meets-turn, meets-break}
 use Rattle.read_ptl.specs.Results.{resultOf, Accepted, meets-result}
 
 -- the first n heads, where they are accepted
@@ -127,7 +127,7 @@ module _ {s : List ℕ} {flag top count : ℕ} {c : Cursor} where
 -- the slots are read as the table says, where the heads are those that stand from a cursor on
 pub record SlotsMet (s : List ℕ) (flag top count n : ℕ) (from c c′ : Cursor) (rec rec′ : List ℕ) : Type 0 where
   pub goes : (all : List Head) → top ≤ 7 → Left s flag top count all 0 from → Meets (loop (ptl-slot all) n 0 tt) s c tt c′ rec rec′
-  pub stays : (c .refused ≡ 0 → ⊥) → c′ .refused ≡ c .refused
+  pub stays : (c .refused ≡ 0 → ⊥) → Still c c′ rec rec′
 
 -- the loop at slot i, its heads' cursor at head i
 pub record Slotting (s : List ℕ) (flag top count i : ℕ) (from heads c c′ : Cursor) (rec rec′ : List ℕ) : Type 0 where
@@ -138,7 +138,7 @@ pub record Slotting (s : List ℕ) (flag top count i : ℕ) (from heads c c′ :
 
 module _ {s : List ℕ} {flag top count : ℕ} {from c : Cursor} {rec : List ℕ} where
   pub slots-begin : Slotting s flag top count 0 from from c c rec rec
-  slots-begin = record { below = omega arith; same = refl; left = λ all L. L; met = record { goes = λ all l L. meets-begin (ptl-slot all); stays = λ h. refl } }
+  slots-begin = record { below = omega arith; same = refl; left = λ all L. L; met = record { goes = λ all l L. meets-begin (ptl-slot all); stays = λ h. still } }
 
   pub slots-turn : {i : ℕ} {heads heads′ c₁ c₂ : Cursor} {p t : ℕ} {rec₁ rec₂ : List ℕ} → i < count → c₁ .refused ≡ 0 → Slotting s flag top count i from heads c c₁ rec rec₁
       → ((hs : List Head) (rec : List ℕ) → Meets (head-of flag top i hs) s heads (hs ++ (head p t ∷ [])) heads′ rec rec)
@@ -152,7 +152,7 @@ module _ {s : List ℕ} {flag top count : ℕ} {from c : Cursor} {rec : List ℕ
       goes = λ all l L.
           let F = left-turn b H (S .left all L) in
           meets-turn (ptl-slot all) i tt (S .met .goes all l L) (meets-as (ap (λ (k : Head). profile-tier-level (k .present-flag) (k .max-tid)) (sym (F .here))) (M (omega (arith, F .low))));
-      stays = λ h. absurd (h (sym (S .met .stays h) ∙ o));
+      stays = λ h. absurd (h (sym (S .met .stays h .same) ∙ o));
     };
   }
 

@@ -33,7 +33,7 @@ meets-mark {A} {m} {s} {c} {a} {c′} {rec} {rec′} M = record { goes = λ o F.
   where
     go : (x : Outcome A) → After x c a c′ rec rec′ → After (keeping section x) c a c′ rec rec′
     go (accepted b t next) W = record { result = W .result; place = W .place; cursor = W .cursor; open′ = W .open′; stored = W .stored }
-    go (refused k t) S = S
+    go (refused k t) S = record { some = S .some; shut′ = S .shut′; cursor = S .cursor; stored = S .stored }
 
 -- a section that starts here
 pub marked-mark : {A : Type 0} {m : Syntax A} {s : List ℕ} {c : Cursor} {a : A} {c′ : Cursor} {rec rec′ l : List ℕ} → Marked m s c a c′ rec rec′ l → Marked (mark m) s c a c′ rec rec′ (c .n ∷ l)

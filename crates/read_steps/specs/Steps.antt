@@ -15,7 +15,7 @@ use Rattle.vps_laws.specs.Inversion.{Reads, reads-run}
 use Rattle.read_steps.specs.declared.Cursor.{Cursor}
 use Rattle.read_steps.specs.Fits.{limit}
 use Rattle.read_steps.specs.Meets.{Meets, Opens, Closes, Tested}
-use Rattle.read_steps.specs.Laws.{opened, closed, meets-step, meets-refused}
+use Rattle.read_steps.specs.Laws.{opened, closed, still, meets-step, meets-refused}
 
 -- ── Whether a step is made ────────────────────────────────────────────
 pub tests : (c : Cursor) → c .refused ≡ 0 → c .at < limit → Tested c (ltb (c .n) limit)
@@ -45,10 +45,11 @@ unfolding numbers
 passes {c = c} {next = next} o R p = meets-step [] next o (reads-run R) (record { result = refl; place = p; cursor = sym (add-zero (c .n)); open′ = refl; stored = refl })
 
 -- it is refused
-pub stops : {A : Type 0} {m : Syntax A} {s : List ℕ} {c : Cursor} {a : A} {k place n : ℕ} {rec rec′ : List ℕ} → c .refused ≡ 0 → run m s (c .at) ≡ refused k [] → (k ≡ 0 → ⊥)
-    → Meets m s c a (record { at = place; n = n; refused = k; spare = 0 }) rec rec′
-stops {k = k} o e h = meets-refused k [] o e (record { some = h; shut′ = refl })
+pub stops : {A : Type 0} {m : Syntax A} {s : List ℕ} {c : Cursor} {a : A} {k place : ℕ} {rec : List ℕ} → c .refused ≡ 0 → run m s (c .at) ≡ refused k [] → (k ≡ 0 → ⊥)
+    → Meets m s c a (record { at = place; n = c .n; refused = k; spare = 0 }) rec rec
+unfolding numbers
+stops {c = c} {k = k} o e h = meets-refused k [] o e (record { some = h; shut′ = refl; cursor = sym (add-zero (c .n)); stored = refl })
 
 -- it was refused before
 pub stays-shut : {A : Type 0} {m : Syntax A} {s : List ℕ} {c : Cursor} {a : A} {rec : List ℕ} → (c .refused ≡ 0 → ⊥) → Meets m s c a c rec rec
-stays-shut h = record { goes = λ e f. absurd (h e); stays = λ g. refl }
+stays-shut h = record { goes = λ e f. absurd (h e); stays = λ g. still }

@@ -7,9 +7,9 @@ use lib.ListN.{length, length-set}
 use Rattle.vps_definition.specs.Words.{repeat}
 use Rattle.vps_definition.specs.DpbParameters.{dpb-sublayer}
 use Rattle.read_steps.specs.Meets.{Yields}
-use Rattle.read_steps.specs.Laws.{meets-as, meets-begin, yields-stored}
+use Rattle.read_steps.specs.Laws.{meets-as, meets-begin, yields-none}
 use Rattle.read_dpb.specs.Grid.{triples}
-use Rattle.read_dpb.specs.Sublayers.{yields-turn, sublayers-room}
+use Rattle.read_dpb.specs.Sublayers.{yields-turn, meets-grid}
 use Rattle.read_dpb.proofs.parse_dpb_parameters.Statement.{statement}
 use Rattle.read_dpb.proofs.parse_dpb_parameters.Tie as tie
 
@@ -24,7 +24,7 @@ at-most-seven-requires c κs = search needs
 
 loop-holds : tie.Need-loop-holds Inv-loop μ-loop
 unfolding repeat triples
-loop-holds c = (omega arith, refl, record { if-stored = λ rec. meets-begin (λ i x. dpb-sublayer) })
+loop-holds c = (omega arith, refl, yields-none refl (λ rec. meets-begin (λ i x. dpb-sublayer)))
 
 read-dpb-sublayer-requires : tie.Need-read-dpb-sublayer-requires Inv-loop μ-loop
 read-dpb-sublayer-requires c κs = search needs
@@ -48,17 +48,21 @@ loop-again c = (
   yields-turn (c .before .before .before .before .loop .i) (c .before .before .before .before .loop .grid) (c .before .before .read-dpb-sublayer .result .row) (omega arith) (c .before .before .before .before .loop .inv .2) (c .before .before .read-dpb-sublayer .ensures),
 )
 
+between-requires : tie.Need-between-requires Inv-loop μ-loop
+between-requires c κs = search needs
+
 store-dpb-requires : tie.Need-store-dpb-requires Inv-loop μ-loop
-store-dpb-requires c κs = omega arith
+store-dpb-requires c κs = c .between .ensures .0
 
 same-length : tie.Need-same-length Inv-loop μ-loop
 same-length c = search needs
 
 returns : tie.Need-returns Inv-loop μ-loop
 returns c =
-    let e : c .before .before .before .before .before .loop .i ≡ c .before .before .before .before .before .before .at-most-seven .result = omega arith in
-    meets-as (ap (λ (k : ℕ). repeat k dpb-sublayer) (c .before .before .before .before .before .before .at-most-seven .ensures .0))
-    (yields-stored (rw e at (c .before .before .before .before .before .loop .inv .2)) (λ F. c .before .before .store-dpb .ensures (sublayers-room _ _ _ _ F)))
+    let i = c .before .before .before .before .before .before .loop .i in
+    let e : i ≡ c .before .before .before .before .before .before .before .at-most-seven .result = omega arith in
+    meets-as (ap (λ (k : ℕ). repeat k dpb-sublayer) (e ∙ c .before .before .before .before .before .before .before .at-most-seven .ensures .0))
+    (meets-grid i (c .before .before .before .before .before .before .loop .grid) (omega arith) (c .before .before .before .before .before .before .loop .inv .2) (c .before .before .before .between .ensures .1) (c .before .before .store-dpb .ensures))
 
 pub parse-dpb-parameters-spec : {M : Type 1} → statement M
 parse-dpb-parameters-spec =
@@ -74,6 +78,7 @@ parse-dpb-parameters-spec =
     add-i
     loop-less
     loop-again
+    between-requires
     store-dpb-requires
     same-length
     returns)

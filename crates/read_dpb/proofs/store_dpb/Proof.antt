@@ -1,55 +1,66 @@
--- The loop's invariant: the first i rows are stored, and `at` stands behind them.
+-- The loop's invariant: the first i numbers are stored.
 use borrow.Author.Needs.{needs}
-use Prim.Native.Nat.{ℕ, _+_, _-_, _*_, _≤_}
-use mathlib.Core.Path.{_≡_, refl, ap, _∙_}
+use Prim.Native.Nat.{ℕ, _-_, _≤_}
+use mathlib.Core.Path.{_≡_, refl, ap, sym, _∙_}
 use native.Mathlib.Omega.{arith}
-use lib.ListN.{length}
+use lib.ListN.{length, take}
 use lib.Seq.{sets, length-sets}
-use Rattle.read_dpb.specs.Grid.{triples, none-stored, triples-stored}
+use Rattle.read_dpb.specs.Grid.{triples, length-triples, triples-at, none-stored, number-stored}
 use Rattle.read_dpb.proofs.store_dpb.Statement.{statement}
 use Rattle.read_dpb.proofs.store_dpb.Tie as tie
 
 abbrev Inv-loop : tie.InvT-loop
-Inv-loop rec₀ n rows grid at₀ i₀ rec at i = (i ≤ rows) × (at ≡ n + 3 * i) × (rec ≡ sets rec₀ n (triples i grid))
+Inv-loop rec₀ n count grid i₀ rec i = (i ≤ count) × (rec ≡ sets rec₀ n (take i (triples 7 grid)))
 
 abbrev μ-loop : tie.MeasureT-loop
-μ-loop rec₀ n rows grid at₀ i₀ rec at i = rows - i
+μ-loop rec₀ n count grid i₀ rec i = count - i
 
 returns : tie.Need-returns Inv-loop μ-loop
-returns c l = none-stored (c .before .before .args .rec .now) (c .before .before .args .n) (c .before .before .args .rows) (c .before .before .args .t3) (λ h. absurd (omega (arith, l h, c .if1 .taken)))
+returns c l = none-stored (c .before .before .args .rec .now) (c .before .before .args .n) (c .before .before .args .count) (triples 7 (c .before .before .args .t3)) (λ h. absurd (omega (arith, l h, c .if1 .taken)))
 
 loop-holds : tie.Need-loop-holds Inv-loop μ-loop
-unfolding triples
-loop-holds c = (omega arith, omega arith, refl)
+loop-holds c = (omega arith, refl)
 
-mul-store-row : tie.Need-mul-store-row Inv-loop μ-loop
-mul-store-row c = search needs
+mul-row : tie.Need-mul-row Inv-loop μ-loop
+mul-row c = omega arith
 
-array-copy-out-store-row : tie.Need-array-copy-out-store-row Inv-loop μ-loop
-array-copy-out-store-row c = search needs
+array-copy-out-row : tie.Need-array-copy-out-row Inv-loop μ-loop
+array-copy-out-row c = omega arith
 
-store-row-requires : tie.Need-store-row-requires Inv-loop μ-loop
-store-row-requires c κs = omega arith
+add-store : tie.Need-add-store Inv-loop μ-loop
+add-store c = omega arith
 
-add-at : tie.Need-add-at Inv-loop μ-loop
-add-at c = omega arith
+mul-store : tie.Need-mul-store Inv-loop μ-loop
+mul-store c = omega arith
+
+array-read-store : tie.Need-array-read-store Inv-loop μ-loop
+array-read-store c = omega arith
+
+store-requires : tie.Need-store-requires Inv-loop μ-loop
+store-requires c κs = search needs
 
 add-i : tie.Need-add-i Inv-loop μ-loop
-add-i c = search needs
+add-i c = omega arith
 
 loop-less : tie.Need-loop-less Inv-loop μ-loop
 loop-less c = omega arith
 
 loop-again : tie.Need-loop-again Inv-loop μ-loop
-loop-again c = (omega arith, omega arith, triples-stored _ _ _ _ _ (c .before .before .before .before .before .before .loop .inv .1) (c .before .before .before .before .before .before .loop .inv .2) (c .before .before .store-row .ensures))
+loop-again c =
+    let grid = c .before .before .before .before .before .before .before .before .before .args .t3 in
+    let i = c .before .before .before .before .before .before .loop .i in (
+      omega arith,
+      number-stored (c .before .before .before .before .before .before .before .before .before .args .rec .now) _ i _ (triples 7 grid) (omega (arith, length-triples 7 grid))
+          (sym (triples-at 7 i grid (omega arith))) (c .before .before .before .before .before .before .loop .inv .1) (c .before .before .store .ensures),
+    )
 
 same-length : tie.Need-same-length Inv-loop μ-loop
-same-length c = ap length (c .before .loop .inv .2) ∙ length-sets (c .before .before .before .before .args .rec .now) (c .before .before .before .before .args .n) (triples (c .before .loop .i) (c .before .before .before .before .args .t3))
+same-length c = ap length (c .before .loop .inv .1) ∙ length-sets (c .before .before .before .before .args .rec .now) (c .before .before .before .before .args .n) (take (c .before .loop .i) (triples 7 (c .before .before .before .before .args .t3)))
 
 returns-2 : tie.Need-returns-2 Inv-loop μ-loop
 returns-2 c l =
-    let e : c .before .loop .i ≡ c .before .before .before .before .args .rows = omega arith in
-    c .before .loop .inv .2 ∙ ap (λ (k : ℕ). sets (c .before .before .before .before .args .rec .now) (c .before .before .before .before .args .n) (triples k (c .before .before .before .before .args .t3))) e
+    let e : c .before .loop .i ≡ c .before .before .before .before .args .count = omega arith in
+    c .before .loop .inv .1 ∙ ap (λ (k : ℕ). sets (c .before .before .before .before .args .rec .now) (c .before .before .before .before .args .n) (take k (triples 7 (c .before .before .before .before .args .t3)))) e
 
 pub store-dpb-spec : {M : Type 1} → statement M
 store-dpb-spec =
@@ -59,10 +70,12 @@ store-dpb-spec =
     μ-loop
     returns
     loop-holds
-    mul-store-row
-    array-copy-out-store-row
-    store-row-requires
-    add-at
+    mul-row
+    array-copy-out-row
+    add-store
+    mul-store
+    array-read-store
+    store-requires
     add-i
     loop-less
     loop-again

@@ -2,8 +2,8 @@
 use borrow.Author.Needs.{needs}
 use native.Mathlib.Omega.{arith}
 use mathlib.Core.List.{[]}
-use Rattle.read_steps.specs.Laws.{meets-as, meets-then, meets-done}
-use Rattle.read_ptl.specs.Results.{stays-both, was-accepted, meets-when}
+use Rattle.read_steps.specs.Laws.{stays-then, meets-as, meets-then, meets-done}
+use Rattle.read_ptl.specs.Results.{was-accepted, meets-when}
 use Rattle.ptl_tables.specs.Section.{section-asked}
 use Rattle.read_ptl.specs.Slots.{left-all}
 use Rattle.read_ptl.proofs.read_ptl_section.Statement.{statement}
@@ -36,7 +36,7 @@ returns c h a l =
     (λ e F o.
     meets-then _ _ (c .before .before .before .before .align .ensures _ (λ e. absurd (omega (arith, e))))
     (meets-then _ _ (c .before .before .read-slots .ensures .goes _ l (left-all e F (was-accepted _ (c .before .before .before .before .before .read-heads .ensures []) [] e F o))) meets-done))
-    (stays-both (c .before .before .before .before .align .ensures [] (λ e. absurd (omega (arith, e))) .stays) (c .before .before .read-slots .ensures .stays)))))
+    (stays-then (c .before .before .before .before .align .ensures _ (λ e. absurd (omega (arith, e))) .stays) (c .before .before .read-slots .ensures .stays)))))
 
 pub read-ptl-section-spec : {M : Type 1} → statement M
 read-ptl-section-spec =
