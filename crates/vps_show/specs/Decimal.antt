@@ -5,8 +5,9 @@ use mathlib.Core.List.{List, [], _∷_, _++_}
 use mathlib.Core.Bool.{Bool, true, false, cond}
 use native.Mathlib.Nat.{pow-suc, pow-le-pow-right}
 use native.Mathlib.Omega.{arith}
-use borrow.Author.Tests.{lt-ltb, le-ltb, leb-true, leb-false}
+use borrow.Author.Tests.{lt-ltb, le-ltb, ltb-true, leb-true, leb-false}
 use lib.Dec.{ltb, leb}
+use lib.ListN.{length, length-append}
 use Rattle.io.specs.Digits.{glyph, digits, Fewest}
 
 -- in at most so many digits
@@ -17,6 +18,10 @@ decimalIn (suc k) n = elim (ltb n 10) [ true ↦ (48 + n) ∷ [] | false ↦ dec
 -- of 64 bits
 abbrev pub decimal : ℕ → List ℕ
 decimal = decimalIn 20
+
+-- of 32 bits
+abbrev pub decimal32 : ℕ → List ℕ
+decimal32 = decimalIn 10
 
 glyph-is : (d : ℕ) → d < 10 → glyph d ≡ 48 + d
 glyph-is d h = ap (λ (b : Bool). cond b (48 + d) (87 + d)) (lt-ltb d 10 h)
@@ -61,3 +66,28 @@ decimal-digits i n f h = fewest-decimal 20 i n f (go (leb i 20) refl)
         let long : 20 < i = leb-false i 20 g in
         let p : 100000000000000000000 ≤ 10 ^ (i - 1) = pow-le-pow-right {n = 10} (omega arith) {i = 20} {j = i - 1} (omega (arith, long)) in
         absurd (omega (arith, h, p, f .2 (omega (arith, long))))
+
+-- ── Places ────────────────────────────────────────────────────────────
+pub places-most : (k n : ℕ) → length (decimalIn k n) ≤ k
+unfolding decimalIn
+places-most zero n = omega arith
+places-most (suc k) n = go (ltb n 10) refl (places-most k (n / 10))
+  where
+    go : (b : Bool) → ltb n 10 ≡ b → length (decimalIn k (n / 10)) ≤ k → length (decimalIn (suc k) n) ≤ suc k
+    go true e h = rw (e, decimalIn) (omega arith)
+    go false e h = rw (e, decimalIn) (omega (arith, length-append (decimalIn k (n / 10)) ((48 + n % 10) ∷ []), h))
+
+-- places beyond those that a number takes change nothing
+enough-places : (k l n : ℕ) → k ≤ l → n < 10 ^ suc k → decimalIn (suc k) n ≡ decimalIn (suc l) n
+unfolding decimalIn
+enough-places zero l n h g = single 0 n g ∙ sym (single l n g)
+enough-places (suc k) zero n h g = absurd (omega (arith, h))
+enough-places (suc k) (suc l) n h g = go (ltb n 10) refl (enough-places k l (n / 10) (omega (arith, h)) (omega (arith, g, pow-suc 10 (suc k))))
+  where
+    go : (b : Bool) → ltb n 10 ≡ b → decimalIn (suc k) (n / 10) ≡ decimalIn (suc l) (n / 10) → decimalIn (suc (suc k)) n ≡ decimalIn (suc (suc l)) n
+    go true e i = single (suc k) n (ltb-true n 10 e) ∙ sym (single (suc l) n (ltb-true n 10 e))
+    go false e i = rw (e, decimalIn) (ap (λ (x : List ℕ). x ++ ((48 + n % 10) ∷ [])) i)
+
+-- ten are enough for 32 bits
+pub decimal-ten : (n : ℕ) → n < 4294967296 → decimal n ≡ decimal32 n
+decimal-ten n h = sym (enough-places 9 19 n (omega arith) (omega (arith, h)))

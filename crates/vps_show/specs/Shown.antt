@@ -12,13 +12,13 @@ use lib.Seq.{drop-cons, take-all}
 use Rattle.vps_definition.specs.Record.{startOf, endOf}
 use Rattle.vps_reader.specs.Parse.{Parse, parseNumber, parseUnit}
 use Rattle.vps_reader.specs.Parse.Parse.{accepted, too-short, refused}
-use Rattle.vps_show.specs.Decimal.{decimal}
+use Rattle.vps_show.specs.Decimal.{decimal, decimal32}
 use Rattle.vps_show.specs.Text.{Puts, puts-length, puts-none, puts-then}
 
--- each number behind a space
+-- each number of 32 bits behind a space
 unfoldable pub spaced : List ℕ → List ℕ
 spaced [] = []
-spaced (n ∷ x) = (32 ∷ decimal n) ++ spaced x
+spaced (n ∷ x) = (32 ∷ decimal32 n) ++ spaced x
 
 abbrev pub newline : List ℕ
 newline = 10 ∷ []
@@ -30,22 +30,39 @@ part r k = take (endOf r k - startOf r k) (drop (startOf r k) r)
 abbrev pub line : (name : List ℕ) → List ℕ → ℕ → List ℕ
 line name r k = name ++ spaced (part r k) ++ newline
 
--- general, layers, rows, ptls, ols
-unfoldable pub firstLines : List ℕ → List ℕ
-firstLines r =
-    line (103 ∷ 101 ∷ 110 ∷ 101 ∷ 114 ∷ 97 ∷ 108 ∷ []) r 0
-    ++ line (108 ∷ 97 ∷ 121 ∷ 101 ∷ 114 ∷ 115 ∷ []) r 1
-    ++ line (114 ∷ 111 ∷ 119 ∷ 115 ∷ []) r 2
-    ++ line (112 ∷ 116 ∷ 108 ∷ 115 ∷ []) r 3
-    ++ line (111 ∷ 108 ∷ 115 ∷ []) r 4
+-- the names of the sections
+abbrev pub generalName : List ℕ
+generalName = 103 ∷ 101 ∷ 110 ∷ 101 ∷ 114 ∷ 97 ∷ 108 ∷ []
 
--- dpb, timing, extension, trailer
+abbrev pub layersName : List ℕ
+layersName = 108 ∷ 97 ∷ 121 ∷ 101 ∷ 114 ∷ 115 ∷ []
+
+abbrev pub rowsName : List ℕ
+rowsName = 114 ∷ 111 ∷ 119 ∷ 115 ∷ []
+
+abbrev pub ptlsName : List ℕ
+ptlsName = 112 ∷ 116 ∷ 108 ∷ 115 ∷ []
+
+abbrev pub olsName : List ℕ
+olsName = 111 ∷ 108 ∷ 115 ∷ []
+
+abbrev pub dpbName : List ℕ
+dpbName = 100 ∷ 112 ∷ 98 ∷ []
+
+abbrev pub timingName : List ℕ
+timingName = 116 ∷ 105 ∷ 109 ∷ 105 ∷ 110 ∷ 103 ∷ []
+
+abbrev pub extensionName : List ℕ
+extensionName = 101 ∷ 120 ∷ 116 ∷ 101 ∷ 110 ∷ 115 ∷ 105 ∷ 111 ∷ 110 ∷ []
+
+abbrev pub trailerName : List ℕ
+trailerName = 116 ∷ 114 ∷ 97 ∷ 105 ∷ 108 ∷ 101 ∷ 114 ∷ []
+
+unfoldable pub firstLines : List ℕ → List ℕ
+firstLines r = line generalName r 0 ++ line layersName r 1 ++ line rowsName r 2 ++ line ptlsName r 3 ++ line olsName r 4
+
 unfoldable pub lastLines : List ℕ → List ℕ
-lastLines r =
-    line (100 ∷ 112 ∷ 98 ∷ []) r 5
-    ++ line (116 ∷ 105 ∷ 109 ∷ 105 ∷ 110 ∷ 103 ∷ []) r 6
-    ++ line (101 ∷ 120 ∷ 116 ∷ 101 ∷ 110 ∷ 115 ∷ 105 ∷ 111 ∷ 110 ∷ []) r 7
-    ++ line (116 ∷ 114 ∷ 97 ∷ 105 ∷ 108 ∷ 101 ∷ 114 ∷ []) r 8
+lastLines r = line dpbName r 5 ++ line timingName r 6 ++ line extensionName r 7 ++ line trailerName r 8
 
 -- ok, and the length
 unfoldable pub okText : (length : ℕ) → List ℕ
@@ -64,9 +81,18 @@ shown (accepted n bits) lent = okText n ++ recordText (take n lent)
 shown (too-short needed) lent = refusedText (parseNumber (too-short needed))
 shown (refused n) lent = refusedText (parseNumber (refused n))
 
--- of a unit, with a work buffer of 4,096 bytes and a record of 8,192 numbers
+-- the bytes of a unit and of the work buffer, and the numbers of the record buffer
+abbrev pub unit-bytes : ℕ
+unit-bytes = 4096
+
+abbrev pub record-numbers : ℕ
+record-numbers = 8192
+
+-- of a unit
 unfoldable pub shownUnit : List ℕ → List ℕ
-shownUnit unit = shown (parseUnit unit (replicate 4096 0) (replicate 8192 0) .answer) (parseUnit unit (replicate 4096 0) (replicate 8192 0) .vps-record)
+shownUnit unit =
+    shown (parseUnit unit (replicate unit-bytes 0) (replicate record-numbers 0) .answer)
+    (parseUnit unit (replicate unit-bytes 0) (replicate record-numbers 0) .vps-record)
 
 -- `too long` and a newline
 abbrev pub tooLong : List ℕ
@@ -74,15 +100,15 @@ tooLong = 116 ∷ 111 ∷ 111 ∷ 32 ∷ 108 ∷ 111 ∷ 110 ∷ 103 ∷ 10 ∷ 
 
 -- of an input, which is a unit if it has at most 4,096 bytes
 unfoldable pub shownInput : List ℕ → List ℕ
-shownInput input = cond (leb (length input) 4096) (shownUnit input) tooLong
+shownInput input = cond (leb (length input) unit-bytes) (shownUnit input) tooLong
 
-pub shown-short : (input : List ℕ) → length input ≤ 4096 → shownUnit input ≡ shownInput input
+pub shown-short : (input : List ℕ) → length input ≤ unit-bytes → shownUnit input ≡ shownInput input
 unfolding shownInput
-shown-short input h = rw (le-leb (length input) 4096 h) refl
+shown-short input h = rw (le-leb (length input) unit-bytes h) refl
 
-pub shown-long : (input : List ℕ) → 4096 < length input → tooLong ≡ shownInput input
+pub shown-long : (input : List ℕ) → unit-bytes < length input → tooLong ≡ shownInput input
 unfolding shownInput
-shown-long input h = rw (lt-leb (length input) 4096 h) refl
+shown-long input h = rw (lt-leb (length input) unit-bytes h) refl
 
 -- ── Parts ─────────────────────────────────────────────────────────────
 pub part-spaced : (r : List ℕ) (k : ℕ) {start end : ℕ} → start ≡ startOf r k → end ≡ endOf r k → spaced (take (end - start) (drop start r)) ≡ spaced (part r k)
@@ -114,7 +140,7 @@ one-more x end i h l =
     count = omega (arith, h)
 
 module _ {x : List ℕ} {from end at : ℕ} {text text′ : List ℕ} {next i : ℕ} (s : Listing x from end at text text′ next i) where
-  pub listing-turn : {next′ : ℕ} {text₂ : List ℕ} → i < end → i < length x → Puts (32 ∷ decimal (getD x i 0)) next next′ text′ text₂ → Listing x from end at text text₂ next′ (i + 1)
+  pub listing-turn : {next′ : ℕ} {text₂ : List ℕ} → i < end → i < length x → Puts (32 ∷ decimal32 (getD x i 0)) next next′ text′ text₂ → Listing x from end at text text₂ next′ (i + 1)
   unfolding spaced
   listing-turn h l p = record { left = λ n t q. s .left n t (rw (one-more x end i h l) (puts-then p q)); same-length = puts-length p ∙ s .same-length }
 

@@ -12,6 +12,8 @@ use lib.ListN.{length, set, take, drop, getD, length-set, length-take, length-ap
 use lib.Seq.{sets, length-sets, set-out, length-take-le, take-suc, take-all}
 use Rattle.io.specs.Counts.{Counts}
 use Rattle.read_steps.specs.Laws.{sets-append}
+use Rattle.vps_reader.specs.Parse.{overlaid}
+use Rattle.vps_reader.specs.Stored.{stored-whole}
 
 pub record Puts (x : List ℕ) (at next : ℕ) (text text′ : List ℕ) : Type 0 where
   pub stored : text′ ≡ sets text at x
@@ -32,6 +34,10 @@ puts-same {x} {y} {at} {next} {text} {text′} e = subst (λ (z : List ℕ). Put
 -- what stands before the place behind it
 pub puts-counts : {x : List ℕ} {next : ℕ} {text text′ : List ℕ} → Puts x 0 next text text′ → Counts next text′
 puts-counts {x} {next} {text} {text′} p = let l : next ≤ length text′ = omega (arith, p .place, puts-length p) in (l, sym (length-take-le next text′ l))
+
+-- where there is room, the whole text stands at the beginning
+pub puts-whole : {x : List ℕ} {next : ℕ} {text text′ : List ℕ} → Puts x 0 next text text′ → length x ≤ length text → (next ≡ length x) × (text′ ≡ overlaid x text)
+puts-whole {x} {next} {text} p h = (omega (arith, p .place), p .stored ∙ stored-whole text x h)
 
 pub puts-none : (at : ℕ) (text : List ℕ) → Puts [] at at text text
 puts-none at text = record { stored = refl; place = omega arith }

@@ -1,5 +1,8 @@
 // Reads one unit from standard input and prints its record, a line a section, or its refusal.
+ghost use mathlib.Core.Path.{_≡_};
+ghost use lib.ListN.{length};
 ghost use Rattle.io.specs.Counts.{Counts};
+ghost use Rattle.vps_reader.specs.Parse.{overlaid};
 ghost use Rattle.vps_show.specs.Text.{Puts};
 ghost use Rattle.vps_show.specs.Shown.{shownUnit, shownInput};
 
@@ -16,9 +19,17 @@ const UNIT_BYTES: usize = 4096;
 // The numbers of the record buffer.
 const RECORD_NUMBERS: usize = 8192;
 
-// Room for the text: 8,192 numbers of a space and three digits, a digit more for every three of the 32,768 bits that are
-// coded, and `ok 8192` and the names. Inferred numbers have three digits at the most, and starts and the count of extension bits four.
-const TEXT_BYTES: usize = 44_032;
+// A space and ten digits, which are enough for a number of 32 bits.
+const NUMBER_BYTES: usize = 11;
+
+// Nine names, each with its newline.
+const NAME_BYTES: usize = 58;
+
+// `ok`, a space, twenty digits and a newline.
+const OK_BYTES: usize = 24;
+
+// Room for the text of every input: the lines of a record have no more numbers than the record.
+const TEXT_BYTES: usize = RECORD_NUMBERS * NUMBER_BYTES + NAME_BYTES + OK_BYTES;
 
 // The text for a unit.
 fn show_unit(unit: &[u8], text: &mut [u8]) -> usize
@@ -30,9 +41,10 @@ fn show_unit(unit: &[u8], text: &mut [u8]) -> usize
     shown::put_answer(text, answer, &record)
 }
 
-// The text for an input.
-fn show(input: &[u8], text: &mut [u8]) -> usize
-    ensures { λ r. ⌜ Puts (shownInput (now (input .entry))) 0 r (now (text .entry)) (now (text .exit)) ⌝ }
+// The text for an input, whole; the bytes behind it are unchanged.
+fn show(input: &[u8], text: &mut [u8; TEXT_BYTES]) -> usize
+    ensures { λ r. ⌜ r ≡ length (shownInput (now (input .entry))) ⌝ }
+    ensures { λ r. ⌜ now (text .exit) ≡ overlaid (shownInput (now (input .entry))) (now (text .entry)) ⌝ }
     ensures { λ r. ⌜ Counts r (now (text .exit)) ⌝ }
 {
     if input.len() <= UNIT_BYTES {

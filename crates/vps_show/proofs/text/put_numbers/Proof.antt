@@ -1,9 +1,10 @@
--- `put_numbers` meets its contract: in each turn, what is put with what is left gives the whole.
+-- `put_numbers` meets its contract: in each turn, what is put with what is left gives the whole; ten digits are enough for a number of 32 bits.
 use Prim.Native.Nat.{ℕ, _-_}
-use mathlib.Core.Path.{ap}
-use mathlib.Core.List.{_∷_}
+use mathlib.Core.Path.{ap, _∙_}
+use mathlib.Core.List.{List, _∷_}
+use native.Mathlib.Omega.{arith}
 use Rattle.vps_show.specs.Text.{puts-same}
-use Rattle.vps_show.specs.Decimal.{decimal}
+use Rattle.vps_show.specs.Decimal.{decimal, decimal-ten}
 use Rattle.vps_show.specs.Shown.{Listing, listing-start, listing-turn, listing-stop, listing-done}
 use borrow.Author.Needs.{needs}
 use Rattle.vps_show.proofs.text.put_numbers.Statement.{statement}
@@ -43,7 +44,7 @@ loop-less : tie.Need-loop-less Inv-loop μ-loop
 loop-less c = search needs
 
 loop-again : tie.Need-loop-again Inv-loop μ-loop
-loop-again c = listing-turn (c .before .before .before .before .before .before .before .before .loop .inv) (c .before .before .before .before .before .before .before .loop-test .taken) (c .before .before .before .before .before .before .if1 .left) (puts-same (ap (λ (n : ℕ). 32 ∷ decimal n) (c .before .before .before .wide .ensures)) (c .before .before .put-number .ensures))
+loop-again c = listing-turn (c .before .before .before .before .before .before .before .before .loop .inv) (c .before .before .before .before .before .before .before .loop-test .taken) (c .before .before .before .before .before .before .if1 .left) (puts-same (ap (λ (n : ℕ). 32 ∷ decimal n) (c .before .before .before .wide .ensures) ∙ ap (λ (x : List ℕ). 32 ∷ x) (decimal-ten _ (omega (arith, c .before .before .before .before .shared-slice-known2 .given (c .before .before .before .before .before .before .before .before .loop .i))))) (c .before .before .put-number .ensures))
 
 same-length-2 : tie.Need-same-length-2 Inv-loop μ-loop
 same-length-2 c = search needs
