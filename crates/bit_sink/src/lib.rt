@@ -14,9 +14,6 @@ use stuffing::is_guarded;
 use stuffing::store;
 use stuffing::zeros_behind;
 
-// Places and counts from here on are never reached: the limits of the contracts stay far below.
-const COUNT_LIMIT: usize = 0x4000_0000_0000_0000;
-
 // What was pushed so far. The lent output has the whole bytes.
 pub struct Sink {
     // the bits of the RBSP
@@ -30,6 +27,9 @@ pub struct Sink {
 }
 
 impl Sink {
+    // Places and counts from here on are never reached: the limits of the contracts stay far below.
+    const LIMIT: usize = 0x4000_0000_0000_0000;
+
     // No bits yet; the first byte goes to a place of the output.
     pub fn new(start: usize) -> Self
         ensures { λ r. ⌜ ((lent : List ℕ) → Holds start [] r lent lent) ⌝ }
@@ -53,7 +53,7 @@ struct End {
 fn store_byte(out: &mut [u8], end: End, b: u8) -> End
     ensures { λ r. ⌜ (end .len < 2 ^ 62 → Stuffed (end .zeros) (end .len) (now (out .entry)) (b ∷ []) (r .zeros) (r .len) (now (out .exit))) ⌝ }
 {
-    if end.len >= COUNT_LIMIT {
+    if end.len >= Sink::LIMIT {
         return end;
     }
     if is_guarded(end.zeros, b) {
@@ -118,7 +118,7 @@ fn joined(pending: u32, value: u32, width: u32) -> u64
 fn push(out: &mut [u8], s: Sink, value: u32, width: u32) -> Sink
     ensures { λ r. ⌜ ((start : ℕ) (b lent : List ℕ) → Holds start b s lent (now (out .entry)) → start < limit → length b < limit + 64 → Holds start (b ++ bitsOf (fieldWidth width) value) r lent (now (out .exit))) ⌝ }
 {
-    if s.bits >= COUNT_LIMIT {
+    if s.bits >= Sink::LIMIT {
         return s;
     }
     let w = capped(width);
@@ -182,7 +182,7 @@ pub fn put_zeros_to_boundary(out: &mut [u8], s: Sink) -> Sink
 fn store_end(out: &mut [u8], end: End) -> usize
     ensures { λ r. ⌜ (end .len < 2 ^ 62 → (r ≡ end .len + length (stuffBehind (end .zeros) [])) × (now (out .exit) ≡ sets (now (out .entry)) (end .len) (stuffBehind (end .zeros) []))) ⌝ }
 {
-    if end.len >= COUNT_LIMIT {
+    if end.len >= Sink::LIMIT {
         return end.len;
     }
     if end.zeros >= 2 {

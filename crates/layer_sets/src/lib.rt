@@ -6,12 +6,13 @@ ghost use lib.Dec.{ltb, eqb};
 ghost use Rattle.vps_definition.specs.OutputLayerSets.{countBelow, withReached};
 ghost use Rattle.layer_sets.specs.Masks.{maskOf, bitOf, bitAt};
 ghost use Rattle.layer_sets.specs.Flags.{withFlag};
+use record_parts::Record;
 
 // Whether layer j is in the mask; no mask has a layer from 64 on.
 fn has(mask: u64, j: usize) -> bool
     ensures { λ r. ⌜ r ≡ bitOf mask j ⌝ }
 {
-    if j < 64 {
+    if j < Record::MOST_LAYERS {
         return (mask >> j) % 2 == 1;
     }
     false
@@ -21,7 +22,7 @@ fn has(mask: u64, j: usize) -> bool
 fn with(mask: u64, j: usize) -> u64
     ensures { λ r. ⌜ r ≡ maskOf 64 (λ k. bitOf mask k || eqb j k) ⌝ }
 {
-    if j < 64 {
+    if j < Record::MOST_LAYERS {
         return mask | (1 << j);
     }
     mask

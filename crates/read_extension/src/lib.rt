@@ -7,15 +7,13 @@ ghost use lib.Seq.{sets};
 ghost use Rattle.vps_definition.specs.Reading.{bitsAt, dataBits, most-rbsp-bytes};
 ghost use Rattle.read_steps.specs.Fits.{limit};
 use read_steps::LIMIT;
-
-// The bytes of an RBSP that is not too long.
-const MOST_RBSP_BYTES: usize = 65_535;
+use record_parts::Record;
 
 // How many bits are read from a place on while more_rbsp_data(): those up to the last one-bit but one, sought from the end.
 pub fn data_bits(bytes: &[u8], at: usize) -> usize
     ensures { λ r. ⌜ (length (now (bytes .entry)) ≤ most-rbsp-bytes → r ≡ dataBits (now (bytes .entry)) at (8 * length (now (bytes .entry)) - at)) ⌝ }
 {
-    if MOST_RBSP_BYTES < bytes.len() {
+    if Record::MOST_RBSP_BYTES < bytes.len() {
         return 0;
     }
     let mut i = bytes.len() * 8;

@@ -17,6 +17,7 @@ ghost use Rattle.read_sets.specs.Sets.{SetsMet, SectionMet};
 use read_layers::Flags;
 use read_steps::Cursor;
 use read_steps::Took;
+use record_parts::Record;
 use refusals::MODE_RESERVED;
 use refusals::NO_OUTPUT_LAYER;
 use vps_header::Header;
@@ -111,7 +112,7 @@ fn take_count(bytes: &[u8], rec: &mut [u32], c: Cursor) -> Took
     let t = read_fields::take_minus1(bytes, rec, c);
     let next = t.next;
     Took {
-        v: vps_header::capped(t.v, 256),
+        v: vps_header::capped(t.v, Record::MOST_ROWS),
         next,
     }
 }

@@ -11,6 +11,7 @@ ghost use Rattle.vps_header.specs.Fields.{headerOf};
 ghost use Rattle.read_vps.specs.Whole.{generalIn, startsIn};
 use read_steps::Cursor;
 use read_steps::Took;
+use record_parts::Record;
 use refusals::PTL_INDEX;
 use vps_header::Header;
 
@@ -149,22 +150,11 @@ pub struct Whole {
     pub next: Cursor,
 }
 
-impl Whole {
-    // The most layers.
-    pub const MOST_LAYERS: usize = 64;
-
-    // The numbers of the record's General section, before the table's own.
-    pub const GENERAL: usize = 9;
-
-    // The numbers of its trailer: the starts, and the total length.
-    pub const TRAILER: usize = 8;
-}
-
 // The whole table, stored from the cursor on.
 pub fn read_vps(bytes: &[u8], rec: &mut [u32], c: Cursor) -> Whole
     ensures { λ r. ⌜ Marked vps (now (bytes .entry)) c (generalIn r) (r .next) (now (rec .entry)) (now (rec .exit)) (startsIn r) ⌝ }
 {
-    let mut closed = [0u64; Whole::MOST_LAYERS];
+    let mut closed = [0u64; Record::MOST_LAYERS];
     let head = read_header::read_header(bytes, c);
     let h = head.header;
     let first = head.next;

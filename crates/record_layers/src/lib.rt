@@ -6,6 +6,7 @@ ghost use Rattle.vps_definition.specs.OutputLayerSets.{flagged};
 ghost use Rattle.vps_definition.specs.Layout.{firsts, flagsIn, entryLength, flagsFrom};
 ghost use Rattle.layer_sets.specs.Masks.{maskOf};
 ghost use Rattle.record_layers.specs.Turns.{Stored};
+use record_parts::Record;
 
 // The layers whose flag is 1, the first of each of i pairs.
 fn flags_mask(rec: &[u32], from: usize, i: usize) -> u64
@@ -55,8 +56,8 @@ fn next_entry(rec: &[u32], at: usize, i: usize) -> usize
 pub fn layer_masks(rec: &[u32], closed: &mut [u64], n: usize)
     ensures { λ _. ⌜ Stored (flagsFrom n 0 (drop 9 (now (rec .entry)))) n (now (closed .entry)) (now (closed .exit)) ⌝ }
 {
-    let most = least(n, least(64, closed.len()));
-    let mut at = 9;
+    let most = least(n, least(Record::MOST_LAYERS, closed.len()));
+    let mut at = Record::GENERAL;
     let mut i = 0;
     while i < most {
         let mask = direct_mask(rec, at, i);

@@ -19,6 +19,7 @@ ghost use Rattle.vps_reader.specs.Answers.{Answers, Gives};
 use bit_reader::Moved;
 use read_steps::Cursor;
 use read_vps::Whole;
+use record_parts::Record;
 use refusals::NOT_A_VPS;
 use refusals::RBSP_TOO_LONG;
 use refusals::UNIT_TOO_SHORT;
@@ -36,10 +37,13 @@ pub enum Parsed {
 
 impl Parsed {
     // The bytes of the longest RBSP.
-    pub const MOST_RBSP_BYTES: usize = 65_535;
+    pub const MOST_RBSP_BYTES: usize = Record::MOST_RBSP_BYTES;
 
     // nal_unit_type of a VPS.
     pub const VPS_NUT: u8 = 14;
+
+    // The numbers of the reader's own list, which keeps the table of a small unit from the first pass.
+    pub const SMALL_NUMBERS: usize = 128;
 }
 
 // What the first pass finds: a refusal, or the table's fields, how many extension bits there are, and the bits used.
@@ -72,7 +76,7 @@ fn measure(bytes: &[u8], small: &mut [u32]) -> Measured
     if Parsed::MOST_RBSP_BYTES < bytes.len() {
         return Measured::Refused(RBSP_TOO_LONG);
     }
-    let whole = read_vps::read_vps(bytes, small, Cursor::new(Whole::GENERAL));
+    let whole = read_vps::read_vps(bytes, small, Cursor::new(Record::GENERAL));
     let next = whole.next;
     if next.refused != 0 {
         return Measured::Refused(next.refused);
@@ -121,7 +125,7 @@ fn store_trailer(rec: &mut [u32], n: usize, w: Whole)
     store_number(rec, n + 4, w.dpb);
     store_number(rec, n + 5, w.timing);
     store_number(rec, n + 6, w.extension);
-    store_number(rec, n + 7, n + Whole::TRAILER);
+    store_number(rec, n + 7, n + Record::TRAILER);
 }
 
 // Copies the numbers from one place to another.
@@ -142,10 +146,10 @@ fn store_table(bytes: &[u8], small: &[u32], rec: &mut [u32], n: usize)
     ensures { λ _. ⌜ ((w : Whole) (T : Table (now (bytes .entry)) w) (lent : List ℕ) → n ≡ w .next .n → now (small .entry) ≡ sets lent 9 (numbers (T .kept)) → now (rec .exit) ≡ sets (now (rec .entry)) 9 (numbers (T .kept))) ⌝ }
 {
     if n <= small.len() {
-        copy(small, rec, Whole::GENERAL, n);
+        copy(small, rec, Record::GENERAL, n);
         return;
     }
-    read_vps::read_vps(bytes, rec, Cursor::new(Whole::GENERAL));
+    read_vps::read_vps(bytes, rec, Cursor::new(Record::GENERAL));
 }
 
 // The second pass: the whole record is stored.
@@ -174,7 +178,7 @@ fn fill_where_room(
     ensures { λ r. ⌜ ((lent : List ℕ) → Kept (now (bytes .entry)) lent (now (small .entry)) w count bits → Answers (now («record» .entry)) (readLimited (now (bytes .entry))) r (now («record» .exit))) ⌝ }
 {
     let next = w.next;
-    let needed = next.n + count + 1 + Whole::TRAILER;
+    let needed = next.n + count + 1 + Record::TRAILER;
     if record.len() < needed {
         return Parsed::TooShort(needed);
     }
@@ -198,7 +202,7 @@ fn parse_by_way_of(bytes: &[u8], small: &mut [u32], record: &mut [u32]) -> Parse
 pub fn parse_rbsp(bytes: &[u8], record: &mut [u32]) -> Parsed
     ensures { λ r. ⌜ Answers (now («record» .entry)) (readLimited (now (bytes .entry))) r (now («record» .exit)) ⌝ }
 {
-    let mut small = [0u32; 128];
+    let mut small = [0u32; Parsed::SMALL_NUMBERS];
     parse_by_way_of(bytes, &mut small, record)
 }
 

@@ -1,5 +1,6 @@
 // Section lookup: the sections of a lent record, as parts of that record.
 ghost use Rattle.vps_sections.specs.Parts.{IsPart, PartOf};
+use record_parts::Record;
 
 // A part of a record: the index of its first number, and how many there are.
 pub struct Part {
@@ -9,7 +10,7 @@ pub struct Part {
 
 impl Part {
     // The highest section: 0 is General, 8 the trailer.
-    pub const LAST: u32 = 8;
+    pub const LAST: u32 = Record::LAST_SECTION as u32;
 }
 
 // Which part of a record a section is. Of a list that is not well formed, and of a number over 8, it is the empty part at the end.

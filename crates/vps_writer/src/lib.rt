@@ -6,11 +6,11 @@ ghost use lib.Seq.{sets};
 ghost use Rattle.vps_definition.specs.Writing.{writeRecord, wellFormed};
 ghost use Rattle.write_end.specs.Ends.{Finishes};
 ghost use Rattle.vps_writer.specs.Write.{Measured, Writes};
+use record_parts::Record;
 use refusals::NOT_WELL_FORMED;
 use refusals::OUTPUT_TOO_SHORT;
 use write_end::Ended;
 use write_steps::Place;
-use write_vps::Whole;
 
 // What writing says. A refusal leaves the output as it was.
 pub enum Written {
@@ -22,13 +22,19 @@ pub enum Written {
 impl Written {
     // The bytes of a unit's header: layer 0, type 14, TemporalId 0.
     pub const HEADER: usize = 2;
+
+    // The second of them: type 14, TemporalId 0.
+    pub const TYPE_BYTE: u8 = 113;
+
+    // The bytes of the writer's own buffer, in which the first pass makes a small unit.
+    pub const SMALL_BYTES: usize = 512;
 }
 
 // The record's RBSP, stuffed, behind the header's place.
 fn put_rbsp(rec: &[u32], out: &mut [u8]) -> Ended
     ensures { λ r. ⌜ Finishes (writeRecord (now (rec .entry))) 2 (now (out .entry)) r (now (out .exit)) ⌝ }
 {
-    let w = write_vps::write_vps(rec, out, Place::new(Written::HEADER, Whole::GENERAL));
+    let w = write_vps::write_vps(rec, out, Place::new(Written::HEADER, Record::GENERAL));
     let next = w.next;
     if next.bad {
         return Ended { bad: true, len: 0 };
@@ -79,7 +85,7 @@ fn put_unit(rec: &[u32], out: &mut [u8]) -> Ended
     ensures { λ r. ⌜ Finishes (writeRecord (now (rec .entry))) 2 (set (set (now (out .entry)) 0 0) 1 113) r (now (out .exit)) ⌝ }
 {
     stuffing::store(out, 0, 0);
-    stuffing::store(out, 1, 113);
+    stuffing::store(out, 1, Written::TYPE_BYTE);
     put_rbsp(rec, out)
 }
 
@@ -118,6 +124,6 @@ fn write_by_way_of(record: &[u32], small: &mut [u8], output: &mut [u8]) -> Writt
 pub fn write_vps_nal(record: &[u32], output: &mut [u8]) -> Written
     ensures { λ r. ⌜ Writes (now («record» .entry)) (now (output .entry)) r (now (output .exit)) ⌝ }
 {
-    let mut small = [0u8; 512];
+    let mut small = [0u8; Written::SMALL_BYTES];
     write_by_way_of(record, &mut small, output)
 }

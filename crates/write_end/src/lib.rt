@@ -14,7 +14,7 @@ ghost use Rattle.write_end.specs.Parts.{Taken, trailerOf, countIn};
 ghost use Rattle.write_end.specs.Flags.{data-flag};
 ghost use Rattle.write_end.specs.Numbers.{Has};
 ghost use Rattle.write_end.specs.Ends.{mayExtend, Looked, extension-table, Finishes};
-use write_steps::MOST_BITS;
+use record_parts::Record;
 use write_steps::Place;
 
 // How a writing ended: badly, or with so many bytes.
@@ -74,11 +74,11 @@ fn has_end(rec: &[u32], c: usize, flag: u32, general: &[usize], trailer: &[usize
     ensures { λ r. ⌜ ((t : List Token) → Taken (now (rec .entry)) (now (general .entry)) t c → now (trailer .entry) ≡ trailerOf (now (rec .entry)) t → getD (now (general .entry)) 8 0 ≡ flag → Looked (now (rec .entry)) (now (general .entry)) t c r) ⌝ }
 {
     let left = left_from(rec, c);
-    if left < 9 {
+    if left < Record::END {
         return false;
     }
     let count = record_parts::number_at(rec, c) as usize;
-    if left - 9 != count {
+    if left - Record::END != count {
         return false;
     }
     if !has_numbers(rec, 0, general) {
@@ -138,7 +138,7 @@ pub fn write_end(
         return Ended { bad: true, len: 0 };
     }
     let sink = next.sink;
-    if MOST_BITS <= sink.bits {
+    if Record::MOST_RBSP_BITS <= sink.bits {
         return Ended { bad: true, len: 0 };
     }
     Ended {

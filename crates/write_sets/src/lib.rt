@@ -14,6 +14,7 @@ ghost use Rattle.vps_header.specs.Fields.{headerOf};
 ghost use Rattle.write_layers.specs.Flags.{FlagsDone};
 ghost use Rattle.write_sets.specs.Rows.{RowDone, RowsDone};
 ghost use Rattle.write_sets.specs.Sets.{SetsDone, SectionDone};
+use record_parts::Record;
 use vps_header::Header;
 use write_layers::Flags;
 use write_steps::Place;
@@ -109,7 +110,7 @@ fn put_count(rec: &[u32], out: &mut [u8], p: Place) -> Sent
     let t = write_fields::put_minus1(rec, out, p);
     let next = t.next;
     Sent {
-        v: vps_header::capped(t.v, 256),
+        v: vps_header::capped(t.v, Record::MOST_ROWS),
         next,
     }
 }

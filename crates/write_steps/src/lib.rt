@@ -7,9 +7,7 @@ ghost use Rattle.vps_definition.specs.Words.{inferred, check};
 ghost use Rattle.write_steps.specs.Does.{Ready, Does};
 ghost use Rattle.write_steps.specs.Pushes.{Tested, Spoils};
 use bit_sink::Sink;
-
-// The bits of the longest RBSP.
-pub const MOST_BITS: usize = 524_280;
+use record_parts::Record;
 
 // Where a writing is: the record's next number, the sink, and whether the record was found not well formed or too long. The
 // spare fields hold nothing: they fill the struct to whole words, which compilers move faster than one with a gap.
@@ -69,10 +67,10 @@ pub fn takes(p: Place, fits: bool, bits: usize) -> bool
     if !fits {
         return false;
     }
-    if MOST_BITS < p.sink.bits {
+    if Record::MOST_RBSP_BITS < p.sink.bits {
         return false;
     }
-    bits <= MOST_BITS - p.sink.bits
+    bits <= Record::MOST_RBSP_BITS - p.sink.bits
 }
 
 // A number that is not coded: the record must have it.

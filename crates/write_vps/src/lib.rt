@@ -7,6 +7,7 @@ ghost use Rattle.write_steps.specs.Does.{Does};
 ghost use Rattle.write_steps.specs.Marked.{Marked};
 ghost use Rattle.vps_header.specs.Fields.{headerOf};
 ghost use Rattle.write_vps.specs.Whole.{generalIn, startsIn};
+use record_parts::Record;
 use vps_header::Header;
 use write_sections::Buffers;
 use write_steps::Place;
@@ -66,19 +67,11 @@ pub struct Whole {
     pub next: Place,
 }
 
-impl Whole {
-    // The most layers.
-    pub const MOST_LAYERS: usize = 64;
-
-    // The numbers of the record's General section, before the table's own.
-    pub const GENERAL: usize = 9;
-}
-
 // The whole table, from the place's number of the record on.
 pub fn write_vps(rec: &[u32], out: &mut [u8], p: Place) -> Whole
     ensures { λ r. ⌜ Marked vps (now (rec .entry)) p (generalIn r) (r .next) (now (out .entry)) (now (out .exit)) (startsIn r) ⌝ }
 {
-    let mut closed = [0u64; Whole::MOST_LAYERS];
+    let mut closed = [0u64; Record::MOST_LAYERS];
     let head = write_header::write_header(rec, out, p);
     let h = head.header;
     let first = head.next;
