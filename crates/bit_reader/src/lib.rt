@@ -16,9 +16,6 @@ use refusals::NOT_WELL_FORMED;
 use refusals::STOP_BIT_MISSING;
 use refusals::STOP_BIT_ZERO;
 
-// Places from here on are refused.
-const PLACE_LIMIT: usize = 0x8000_0000_0000_0000;
-
 // A place among the bits of an RBSP, counted from its first.
 pub struct ReadPlace {
     pub bit_pos: usize,
@@ -89,6 +86,9 @@ fn code_by_fields(bytes: &[u8], at: usize) -> Read
 }
 
 impl ReadPlace {
+    // Places from here on are refused.
+    const LIMIT: usize = 0x8000_0000_0000_0000;
+
     // The first place.
     pub fn new() -> Self
         ensures { λ r. ⌜ r .«bit_pos» ≡ 0 ⌝ }
@@ -111,7 +111,7 @@ impl ReadPlace {
         if 32 < width {
             return Read::Refused(NOT_WELL_FORMED);
         }
-        if PLACE_LIMIT <= at {
+        if ReadPlace::LIMIT <= at {
             return Read::Refused(NOT_WELL_FORMED);
         }
         let value = field_at(bytes, at, width);
@@ -128,7 +128,7 @@ impl ReadPlace {
         ensures { λ r. ⌜ readAnswer r ≡ readCode (now (bytes .entry)) (self .«bit_pos») ⌝ }
     {
         let at = self.bit_pos;
-        if PLACE_LIMIT <= at {
+        if ReadPlace::LIMIT <= at {
             return Read::Refused(NOT_WELL_FORMED);
         }
         let start = window_start(bytes.len(), at / 8);
@@ -151,7 +151,7 @@ impl ReadPlace {
         ensures { λ r. ⌜ movedAnswer r ≡ readAlignment (self .«bit_pos») ⌝ }
     {
         let at = self.bit_pos;
-        if PLACE_LIMIT <= at {
+        if ReadPlace::LIMIT <= at {
             return Moved::Refused(NOT_WELL_FORMED);
         }
         Moved::To(ReadPlace {
@@ -164,7 +164,7 @@ impl ReadPlace {
         ensures { λ r. ⌜ askedAnswer r ≡ askAligned (self .«bit_pos») ⌝ }
     {
         let at = self.bit_pos;
-        if PLACE_LIMIT <= at {
+        if ReadPlace::LIMIT <= at {
             return Asked::Refused(NOT_WELL_FORMED);
         }
         if at % 8 == 0 { Asked::Yes } else { Asked::No }
@@ -175,7 +175,7 @@ impl ReadPlace {
         ensures { λ r. ⌜ askedAnswer r ≡ askMoreData (now (bytes .entry)) (self .«bit_pos») ⌝ }
     {
         let at = self.bit_pos;
-        if PLACE_LIMIT <= at {
+        if ReadPlace::LIMIT <= at {
             return Asked::Refused(NOT_WELL_FORMED);
         }
         let begun = field_at(bytes, at, (8 - at % 8) as u32);
@@ -196,7 +196,7 @@ impl ReadPlace {
         ensures { λ r. ⌜ movedAnswer r ≡ readTrailing (now (bytes .entry)) (self .«bit_pos») ⌝ }
     {
         let at = self.bit_pos;
-        if PLACE_LIMIT <= at {
+        if ReadPlace::LIMIT <= at {
             return Moved::Refused(NOT_WELL_FORMED);
         }
         if bytes.len() <= at / 8 {

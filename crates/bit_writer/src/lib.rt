@@ -11,9 +11,6 @@ ghost use Rattle.bit_writer.specs.Answers.{Writes};
 use refusals::NOT_WELL_FORMED;
 use refusals::OUTPUT_TOO_SHORT;
 
-// Places from here on are refused.
-const PLACE_LIMIT: usize = 0x8000_0000_0000_0000;
-
 // A place among the bits of a lent buffer, counted from its first.
 pub struct WritePlace {
     pub bit_pos: usize,
@@ -88,6 +85,9 @@ fn put_where_room(out: &mut [u8], at: usize, value: u64, width: u32) -> Wrote
 }
 
 impl WritePlace {
+    // Places from here on are refused.
+    const LIMIT: usize = 0x8000_0000_0000_0000;
+
     // The first place.
     pub fn new() -> Self
         ensures { λ r. ⌜ r .«bit_pos» ≡ 0 ⌝ }
@@ -113,7 +113,7 @@ impl WritePlace {
         if ((value as u64) >> width) > 0 {
             return Wrote::Refused(NOT_WELL_FORMED);
         }
-        if at >= PLACE_LIMIT {
+        if at >= WritePlace::LIMIT {
             return Wrote::Refused(NOT_WELL_FORMED);
         }
         put_where_room(out, at, value as u64, width)
@@ -127,7 +127,7 @@ impl WritePlace {
         if value >= 0xffff_ffff {
             return Wrote::Refused(NOT_WELL_FORMED);
         }
-        if at >= PLACE_LIMIT {
+        if at >= WritePlace::LIMIT {
             return Wrote::Refused(NOT_WELL_FORMED);
         }
         let code_num = value + 1;
@@ -140,7 +140,7 @@ impl WritePlace {
         ensures { λ r. ⌜ Writes (placeGood (self .«bit_pos»)) (self .«bit_pos») (alignmentBits (self .«bit_pos»)) (now (out .entry)) r (now (out .exit)) ⌝ }
     {
         let at = self.bit_pos;
-        if at >= PLACE_LIMIT {
+        if at >= WritePlace::LIMIT {
             return Wrote::Refused(NOT_WELL_FORMED);
         }
         put_where_room(out, at, 0, ((8 - at % 8) % 8) as u32)
@@ -151,7 +151,7 @@ impl WritePlace {
         ensures { λ r. ⌜ Writes (placeGood (self .«bit_pos»)) (self .«bit_pos») (trailingBits (self .«bit_pos»)) (now (out .entry)) r (now (out .exit)) ⌝ }
     {
         let at = self.bit_pos;
-        if at >= PLACE_LIMIT {
+        if at >= WritePlace::LIMIT {
             return Wrote::Refused(NOT_WELL_FORMED);
         }
         let zeros = (7 - at % 8) as u32;

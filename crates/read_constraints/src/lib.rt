@@ -8,7 +8,6 @@ ghost use Rattle.read_steps.specs.Fits.{limit};
 ghost use Rattle.read_steps.specs.Meets.{Meets};
 ghost use Rattle.ptl_tables.specs.Parts.{kept-field};
 use read_steps::Cursor;
-use read_steps::LIMIT;
 
 // A number of fields of a width up to 32.
 pub fn read_fields(bytes: &[u8], rec: &mut [u32], c: Cursor, count: u32, width: u32) -> Cursor
@@ -31,7 +30,7 @@ pub fn read_fields(bytes: &[u8], rec: &mut [u32], c: Cursor, count: u32, width: 
 fn constraints_length(bytes: &[u8], c: Cursor) -> u32
     ensures { λ r. ⌜ (c .at < limit → r ≡ 77 + fieldAt (now (bytes .entry)) (c .at + 69) 8) ⌝ }
 {
-    if LIMIT <= c.at {
+    if Cursor::LIMIT <= c.at {
         return 77;
     }
     77 + bit_fields::field_at(bytes, c.at + 69, 8)

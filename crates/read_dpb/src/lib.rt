@@ -10,7 +10,6 @@ ghost use Rattle.read_steps.specs.Fits.{limit};
 ghost use Rattle.read_steps.specs.Meets.{Meets, Yields};
 ghost use Rattle.read_dpb.specs.Grid.{rows, triple, triples};
 use read_steps::Cursor;
-use read_steps::LIMIT;
 use read_steps::Took;
 use refusals::DPB_BUFFERING;
 use refusals::DPB_DEPTH;
@@ -59,7 +58,7 @@ fn store_dpb(rec: &mut [u32], n: usize, grid: [[u32; 3]; 7], count: usize)
     requires { ⌜ count ≤ 21 ⌝ }
     ensures { λ _. ⌜ ((0 < count → n < limit) → now (rec .exit) ≡ sets (now (rec .entry)) n (take count (triples 7 grid))) ⌝ }
 {
-    if LIMIT <= n {
+    if Cursor::LIMIT <= n {
         return;
     }
     let mut i: usize = 0;

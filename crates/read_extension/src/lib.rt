@@ -6,7 +6,7 @@ ghost use lib.ListN.{length};
 ghost use lib.Seq.{sets};
 ghost use Rattle.vps_definition.specs.Reading.{bitsAt, dataBits, most-rbsp-bytes};
 ghost use Rattle.read_steps.specs.Fits.{limit};
-use read_steps::LIMIT;
+use read_steps::Cursor;
 use record_parts::Record;
 
 // How many bits are read from a place on while more_rbsp_data(): those up to the last one-bit but one, sought from the end.
@@ -33,13 +33,13 @@ pub fn data_bits(bytes: &[u8], at: usize) -> usize
 pub fn store_bits(bytes: &[u8], rec: &mut [u32], n: usize, at: usize, count: usize)
     ensures { λ _. ⌜ (at + count < limit → n + count < limit → now (rec .exit) ≡ sets (now (rec .entry)) n (bitsAt (now (bytes .entry)) at count)) ⌝ }
 {
-    if LIMIT <= at {
+    if Cursor::LIMIT <= at {
         return;
     }
-    if LIMIT <= n {
+    if Cursor::LIMIT <= n {
         return;
     }
-    if LIMIT <= count {
+    if Cursor::LIMIT <= count {
         return;
     }
     let mut j = 0;

@@ -8,7 +8,6 @@ ghost use Rattle.read_steps.specs.Meets.{Meets};
 ghost use Rattle.ptl_tables.specs.Parts.{from-sublayers, from-level};
 ghost use Rattle.read_profile.specs.Reversed.{fallingAt};
 use read_steps::Cursor;
-use read_steps::LIMIT;
 
 // The profile and the tier, where they are present.
 fn read_profile_and_tier(bytes: &[u8], rec: &mut [u32], c: Cursor, present: u32) -> Cursor
@@ -46,7 +45,7 @@ fn read_reversed(bytes: &[u8], rec: &mut [u32], c: Cursor, count: u32, width: u3
     requires { ⌜ width ≤ 8 ⌝ }
     ensures { λ r. ⌜ Meets (reversed count width) (now (bytes .entry)) c (fallingAt (now (bytes .entry)) (c .at) count width) r (now (rec .entry)) (now (rec .exit)) ⌝ }
 {
-    if LIMIT <= c.at {
+    if Cursor::LIMIT <= c.at {
         return c;
     }
     let mut next = c;

@@ -7,9 +7,6 @@ ghost use Rattle.vps_definition.specs.Words.{inferred, check, aligned};
 ghost use Rattle.read_steps.specs.Meets.{Meets, Tested, Shuts};
 use refusals::NOT_WELL_FORMED;
 
-// Places and cursors from here on are never reached: the whole table stays below.
-pub const LIMIT: usize = 0x4000_0000_0000_0000;
-
 // Where a reading is: the bit place, the record's next number, and the refusal that stopped it, or 0. The last field holds
 // nothing: it fills the struct to whole words, which compilers move faster than one with a gap.
 pub struct Cursor {
@@ -26,6 +23,9 @@ pub struct Took {
 }
 
 impl Cursor {
+    // Places and numbers from here on are never reached: the whole table stays below.
+    pub const LIMIT: usize = 0x4000_0000_0000_0000;
+
     // At the first bit, with the record's next number.
     pub fn new(n: usize) -> Self
         ensures { λ r. ⌜ (r .at ≡ 0) × ((r .n ≡ n) × (r .refused ≡ 0)) ⌝ }
@@ -55,10 +55,10 @@ pub fn is_open(c: Cursor) -> bool
     if c.refused != 0 {
         return false;
     }
-    if LIMIT <= c.at {
+    if Cursor::LIMIT <= c.at {
         return false;
     }
-    c.n < LIMIT
+    c.n < Cursor::LIMIT
 }
 
 // A cursor that goes no further: one that was refused stays as it is, another is refused where it stands.
