@@ -58,12 +58,60 @@ pub fn put_rbsp_trailing_bits(place: &mut WritePlace, out: &mut [u8]) -> u32
     s.number
 }
 
-// A field at a place that is given by its number, for callers that lend none: a place of its own goes to the step.
+// One bit at a place that is given by its number, for callers that lend none: a place of its own goes to the step.
+pub fn put_bit_at(out: &mut [u8], bit_pos: usize, bit: u32) -> Stepped
+    ensures { λ r. ⌜ Steps (fieldGood «bit_pos» bit 1) «bit_pos» (bitsOf 1 bit) (now (out .entry)) (r .number) (r .«bit_pos») (now (out .exit)) ⌝ }
+{
+    let mut place = WritePlace { bit_pos };
+    let number = put_bit(&mut place, out, bit);
+    Stepped {
+        bit_pos: place.bit_pos,
+        number,
+    }
+}
+
+// A field at a given place, likewise.
 pub fn put_bits_at(out: &mut [u8], bit_pos: usize, value: u32, width: u32) -> Stepped
     ensures { λ r. ⌜ Steps (fieldGood «bit_pos» value width) «bit_pos» (bitsOf width value) (now (out .entry)) (r .number) (r .«bit_pos») (now (out .exit)) ⌝ }
 {
     let mut place = WritePlace { bit_pos };
     let number = put_bits(&mut place, out, value, width);
+    Stepped {
+        bit_pos: place.bit_pos,
+        number,
+    }
+}
+
+// A code at a given place, likewise.
+pub fn put_ue_at(out: &mut [u8], bit_pos: usize, value: u32) -> Stepped
+    ensures { λ r. ⌜ Steps (codeGood «bit_pos» value) «bit_pos» (codeOf value) (now (out .entry)) (r .number) (r .«bit_pos») (now (out .exit)) ⌝ }
+{
+    let mut place = WritePlace { bit_pos };
+    let number = put_ue(&mut place, out, value);
+    Stepped {
+        bit_pos: place.bit_pos,
+        number,
+    }
+}
+
+// Zeros from a given place to the byte boundary, likewise.
+pub fn align_to_byte_at(out: &mut [u8], bit_pos: usize) -> Stepped
+    ensures { λ r. ⌜ Steps (placeGood «bit_pos») «bit_pos» (alignmentBits «bit_pos») (now (out .entry)) (r .number) (r .«bit_pos») (now (out .exit)) ⌝ }
+{
+    let mut place = WritePlace { bit_pos };
+    let number = align_to_byte(&mut place, out);
+    Stepped {
+        bit_pos: place.bit_pos,
+        number,
+    }
+}
+
+// The stop bit at a given place, and zeros to the byte boundary, likewise.
+pub fn put_rbsp_trailing_bits_at(out: &mut [u8], bit_pos: usize) -> Stepped
+    ensures { λ r. ⌜ Steps (placeGood «bit_pos») «bit_pos» (trailingBits «bit_pos») (now (out .entry)) (r .number) (r .«bit_pos») (now (out .exit)) ⌝ }
+{
+    let mut place = WritePlace { bit_pos };
+    let number = put_rbsp_trailing_bits(&mut place, out);
     Stepped {
         bit_pos: place.bit_pos,
         number,

@@ -66,7 +66,8 @@ fn extension_bits(bytes: &[u8], flag: u32, at: usize) -> usize
 fn read_end(bytes: &[u8], at: usize) -> Moved
     ensures { λ r. ⌜ (at < 2 ^ 63 → movedAnswer r ≡ trailingAt (now (bytes .entry)) at) ⌝ }
 {
-    rbsp_fields::read_trailing(bytes, at)
+    let end = rbsp_fields::read_trailing(bytes, at);
+    end.answer
 }
 
 // The first pass: the table's numbers are stored in another list, as far as it reaches.

@@ -11,7 +11,7 @@ read-trailing-requires c κs = search needs
 
 returns : tie.Need-returns
 unfolding readTrailing
-returns c l = c .read-trailing .ensures ∙ rw (lt-ltb _ _ l) refl
+returns c l = c .read-trailing .ensures .0 ∙ rw (lt-ltb _ _ l) refl
 
 pub read-end-spec : {M : Type 1} → statement M
 read-end-spec = tie.close (tie.spec read-trailing-requires returns)
