@@ -3,6 +3,8 @@ use bit_reader::Asked;
 use bit_reader::Moved;
 use bit_reader::Read;
 use bit_reader::ReadPlace;
+use rbsp_fields::MovedStep;
+use rbsp_fields::ReadStep;
 use replay_numbers::eight_bytes;
 use replay_numbers::four_bytes;
 use replay_parts::behind;
@@ -67,6 +69,31 @@ fn is_moved(answer: Moved, expected: Expected) -> bool {
     }
 }
 
+// Where a place stands after a step: at a refusal where it was.
+fn place_then(at: usize, expected: Expected) -> usize {
+    if expected.number == 0 {
+        return expected.next;
+    }
+    at
+}
+
+// The same for a step of a reader that carries its bytes, and where it stands then.
+fn is_read_step(step: ReadStep, at: usize, expected: Expected) -> bool {
+    if step.bit_pos != place_then(at, expected) {
+        return false;
+    }
+    let answer = step.answer;
+    is_read(answer, expected)
+}
+
+fn is_moved_step(step: MovedStep, at: usize, expected: Expected) -> bool {
+    if step.bit_pos != place_then(at, expected) {
+        return false;
+    }
+    let answer = step.answer;
+    is_moved(answer, expected)
+}
+
 // A yes has the value 1, a no the value 0.
 fn is_asked(answer: Asked, expected: Expected) -> bool {
     match answer {
@@ -110,12 +137,35 @@ fn moved(step: u8, bytes: &[u8], at: usize) -> Moved {
     place.read_rbsp_trailing_bits(bytes)
 }
 
-// Whether a step at a place says what is expected.
+fn read_step(step: u8, bytes: &[u8], at: usize, width: u32) -> ReadStep {
+    if step == BIT {
+        return rbsp_fields::read_bit(bytes, at);
+    }
+    if step == FIELD {
+        return rbsp_fields::read_field(bytes, at, width);
+    }
+    rbsp_fields::read_code(bytes, at)
+}
+
+fn moved_step(step: u8, bytes: &[u8], at: usize) -> MovedStep {
+    if step == ALIGNMENT {
+        return rbsp_fields::read_alignment(bytes, at);
+    }
+    rbsp_fields::read_trailing(bytes, at)
+}
+
+// Whether a step at a place says what is expected, of a bare place and of a reader that carries its bytes.
 pub fn is_step(step: u8, bytes: &[u8], at: usize, width: u32, expected: Expected) -> bool {
     if step <= CODE {
-        return is_read(read(step, bytes, at, width), expected);
+        if !is_read(read(step, bytes, at, width), expected) {
+            return false;
+        }
+        return is_read_step(read_step(step, bytes, at, width), at, expected);
     }
-    is_moved(moved(step, bytes, at), expected)
+    if !is_moved(moved(step, bytes, at), expected) {
+        return false;
+    }
+    is_moved_step(moved_step(step, bytes, at), at, expected)
 }
 
 fn expected_of(content: &[u8]) -> Expected {
