@@ -12,6 +12,7 @@ pub mod record_numbers;
 pub mod records;
 pub mod refusal;
 pub mod samples;
+pub mod section_list;
 pub mod show;
 pub mod structures;
 pub mod unit_list;

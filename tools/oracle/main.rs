@@ -1,5 +1,5 @@
 // The Rust's answers, by sub-command: each is a module of its own.
-use judge::{changed_records, definition_units, leaves, record_list, records, samples, show, unit_list, units};
+use judge::{changed_records, definition_units, leaves, record_list, records, samples, section_list, show, unit_list, units};
 
 use std::io::Write;
 use std::process::ExitCode;
@@ -12,6 +12,8 @@ oracle unit-list shapes                      how many of its accepted cases show
 oracle record-list                           the list that crates/records_replay replays, as bytes
 oracle record-list expected                  what it is to print
 oracle record-list shapes                    how many of its written cases show each shape, and how many each way has
+oracle section-list                          the list that crates/sections_replay replays, as bytes
+oracle section-list expected                 what it is to print
 oracle show HEX                              the Rust's answer for a unit
 oracle records                               what the Rust writes for records that are not well formed
 oracle units SEED COUNT MAXBYTES             a line a unit: bytes, and record with bits used, or refusal
@@ -32,6 +34,8 @@ fn main() -> ExitCode {
         ["record-list"] => write_out(record_list::list().bytes()),
         ["record-list", "expected"] => write_out(record_list::list().expected().as_bytes()),
         ["record-list", "shapes"] => write_out(record_list::shapes_shown().as_bytes()),
+        ["section-list"] => write_out(section_list::list().bytes()),
+        ["section-list", "expected"] => write_out(section_list::list().expected().as_bytes()),
         ["show", hex] => match show::unit_of(hex) {
             Some(unit) => write_out(show::answer(&unit).as_bytes()),
             None => fail("not pairs of hexadecimal digits"),

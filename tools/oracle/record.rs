@@ -54,13 +54,28 @@ pub fn record_of(v: &VvcVps) -> Vec<u32> {
         .map(u32::from),
     );
     let mut trailer = Vec::new();
-    for section in [layers, rows, ptls, sets, dpb, timing, extension] {
+    for section in SECTIONS {
         trailer.push(r.len() as u32);
         section(v, &mut r);
     }
     trailer.push(r.len() as u32 + 8);
     r.extend(trailer);
     r
+}
+
+// The sections between General and the trailer.
+const SECTIONS: [fn(&VvcVps, &mut Vec<u32>); 7] = [layers, rows, ptls, sets, dpb, timing, extension];
+
+// How many numbers each section of the record has: the nine of General, those of each section alone, the trailer's eight.
+pub fn section_lengths(v: &VvcVps) -> Vec<usize> {
+    let mut lengths = vec![9];
+    for section in SECTIONS {
+        let mut alone = Vec::new();
+        section(v, &mut alone);
+        lengths.push(alone.len());
+    }
+    lengths.push(8);
+    lengths
 }
 
 fn layers(v: &VvcVps, r: &mut Vec<u32>) {
