@@ -1,6 +1,6 @@
 -- Worked units under a rule that isn't in force: what the rule refuses, and before which other refusal.
 use mathlib.Core.Path.{_≡_, refl}
-use mathlib.Core.List.{List, [], _∷_}
+use mathlib.Core.List.{[], _∷_}
 use mathlib.Core.Bool.{true, false}
 use Rattle.vps_definition.specs.Rules.{Rules}
 use Rattle.vps_definition.specs.Reading.{readUnitUnder, readUnit}
