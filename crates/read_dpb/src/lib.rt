@@ -24,6 +24,11 @@ pub struct Triple {
     pub next: Cursor,
 }
 
+impl Triple {
+    // The numbers of a grid: the triples of seven sublayers.
+    const GRID_NUMBERS: usize = 3 * 7;
+}
+
 // One sublayer's triple, for the caller to store.
 fn read_dpb_sublayer(bytes: &[u8], c: Cursor) -> Triple
     ensures { λ r. ⌜ Yields dpb-sublayer (now (bytes .entry)) c tt (r .next) (triple (r .row)) ⌝ }
@@ -47,10 +52,10 @@ fn between(from: usize, to: usize) -> usize
     if to <= from {
         return 0;
     }
-    if to - from < 21 {
+    if to - from < Triple::GRID_NUMBERS {
         return to - from;
     }
-    21
+    Triple::GRID_NUMBERS
 }
 
 // Stores the first numbers of a grid, one after another.
