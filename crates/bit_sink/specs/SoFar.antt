@@ -1,11 +1,12 @@
 -- Stuffing of bytes behind which more may follow: no 03 stands at the end yet.
-use Prim.Native.Nat.{ℕ, suc, _+_, _/_, _≤_}
+use Prim.Native.Nat.{ℕ, _+_, _/_, _≤_}
 use mathlib.Core.List.{List, [], _∷_, _++_, append-assoc, append-nil}
 use mathlib.Core.Path.{_≡_, refl, sym, ap, _∙_}
 use native.Mathlib.Nat.{add-zero}
 use native.Mathlib.Omega.{arith}
-use lib.ListN.{length, set, length-append}
+use lib.ListN.{length, length-append}
 use lib.Seq.{sets}
+use Rattle.lists.specs.Stored.{sets-append}
 use Rattle.stuffing.specs.Stuffing.{added, zerosAdded, stuffBehind, stuff}
 use Rattle.stuffing.specs.Laws.{stuff-length}
 
@@ -53,10 +54,6 @@ pub record Stuffed (z n : ℕ) (out x : List ℕ) (z′ n′ : ℕ) (out′ : Li
   pub ends : z′ ≡ zerosSoFar z x
   pub long : n′ ≡ n + length (stuffingSoFar z x)
   pub stored : out′ ≡ sets out n (stuffingSoFar z x)
-
-sets-append : (l : List ℕ) (i : ℕ) (vs ws : List ℕ) → sets l i (vs ++ ws) ≡ sets (sets l i vs) (i + length vs) ws
-sets-append l i [] ws = rw (add-zero i) refl
-sets-append l i (v ∷ vs) ws = sets-append (set l i v) (suc i) vs ws ∙ ap (λ (k : ℕ). sets (sets (set l i v) (suc i) vs) k ws) (omega arith)
 
 -- what is stored behind other bytes is stored with them
 pub sets-behind : (l : List ℕ) (i : ℕ) (vs ws : List ℕ) {l′ : List ℕ} {i′ : ℕ} → l′ ≡ sets l i vs → i′ ≡ i + length vs → sets l′ i′ ws ≡ sets l i (vs ++ ws)

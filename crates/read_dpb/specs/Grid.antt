@@ -10,7 +10,7 @@ use borrow.Author.Tests.{ltb-true, ltb-false}
 use lib.Dec.{ltb}
 use lib.ListN.{length, getD, set, take, length-append, List·getD-append}
 use lib.Seq.{sets, getD-set-same, getD-set-other, getD-append-add, take-append-le, take-suc, length-take-le}
-use Rattle.read_steps.specs.Laws.{sets-append}
+use Rattle.lists.specs.Stored.{sets-append}
 
 -- at most as many as the grid has
 abbrev pub rows : ℕ → ℕ

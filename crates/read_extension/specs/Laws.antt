@@ -10,12 +10,12 @@ use borrow.Author.Tests.{leb-true, leb-false, le-leb, lt-leb}
 use lib.Dec.{leb}
 use lib.ListN.{length, set}
 use lib.Seq.{sets}
+use Rattle.lists.specs.Stored.{sets-append}
 use Rattle.bits.specs.Bits.{bitAt, onesAt}
 use Rattle.bits.specs.FieldLaws.{ones-split}
 use Rattle.bits.specs.Reading.{moreData}
 use Rattle.vps_definition.specs.Reading.{bitsAt, dataBits}
 use Rattle.vps_laws.specs.Extension.{bits-at-length}
-use Rattle.read_steps.specs.Laws.{sets-append}
 
 -- how many ones stand from a place on
 abbrev pub onesFrom : List ℕ → ℕ → ℕ

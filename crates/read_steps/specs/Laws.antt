@@ -1,13 +1,14 @@
 -- How readings by code go on: one law for a step, one for two tables in a row, one for a turn of a loop.
-use Prim.Native.Nat.{ℕ, suc, _+_, _-_, _≤_}
+use Prim.Native.Nat.{ℕ, _+_, _-_, _≤_}
 use mathlib.Core.Path.{_≡_, refl, sym, ap, _∙_, subst}
-use mathlib.Core.List.{List, [], _∷_, _++_}
+use mathlib.Core.List.{List, [], _++_}
 use mathlib.Core.Bool.{Bool, true, false}
 use mathlib.Core.Logic.{_⊎_, inl, inr}
 use native.Mathlib.Nat.{add-zero}
 use native.Mathlib.Omega.{arith}
-use lib.ListN.{length, set, take, length-append}
+use lib.ListN.{length, take, length-append}
 use lib.Seq.{sets, take-all, take-append-le, take-append-add}
+use Rattle.lists.specs.Stored.{sets-append}
 use Rattle.vps_definition.specs.Syntax.{Syntax, _>>=_, Token, numbers, Outcome, run}
 use Rattle.vps_definition.specs.Syntax.Syntax.{code, test, done}
 use Rattle.vps_definition.specs.Syntax.Outcome.{accepted, refused}
@@ -18,10 +19,6 @@ use Rattle.vps_laws.specs.Keeps.{Keeps, numbers-append}
 use Rattle.read_steps.specs.declared.Cursor.{Cursor}
 use Rattle.read_steps.specs.Fits.{Room, Fits, fits-first, fits-second}
 use Rattle.read_steps.specs.Meets.{Went, Stopped, After, Still, Meets, Yields, Opens, Closes, Tested, Shuts}
-
-pub sets-append : (l : List ℕ) (i : ℕ) (vs ws : List ℕ) → sets l i (vs ++ ws) ≡ sets (sets l i vs) (i + length vs) ws
-sets-append l i [] ws = rw (add-zero i) refl
-sets-append l i (v ∷ vs) ws = sets-append (set l i v) (suc i) vs ws ∙ ap (λ (k : ℕ). sets (sets (set l i v) (suc i) vs) k ws) (omega arith)
 
 -- ── Behind a refusal ──────────────────────────────────────────────────
 pub still : {c : Cursor} {rec : List ℕ} → Still c c rec rec

@@ -10,8 +10,9 @@ use borrow.Author.Tests.{le-leb, lt-leb, leb-true, ne-eqb}
 use lib.ListN.{length, getD, drop, set, length-append, length-set, drop-of-length-le}
 use lib.Seq.{set-set, sets-eq, sets, drop-cons}
 use Rattle.refusals.specs.Number.{output-too-short}
+use Rattle.refusals.specs.Lent.{lent, outputAfter}
 use Rattle.stuffing.specs.declared.Stuffed.the-variants.{Done, Refused}
-use Rattle.stuffing.specs.Answers.{lent, outputAfter, Lends}
+use Rattle.stuffing.specs.Answers.{Lends}
 use Rattle.stuffing.specs.Stuffing.{zerosBehind, unstuff, guarded, added, zerosAdded, stuffBehind, stuff}
 use Rattle.stuffing.specs.Laws.{stuff-length, stuff-longer, unstuff-length}
 use Rattle.stuffing.specs.Machine.{dropped, zerosIn, moreIn, unstuffBehind, unstuff-machine}

@@ -88,6 +88,20 @@ unstuffBehind-length z (b ∷ s) = shorter (dropped z b) (unstuffBehind (zerosKe
 pub unstuff-length : (s : List ℕ) → length (unstuff s) ≤ length s
 unstuff-length s = rw (unstuff-machine s) (unstuffBehind-length 0 s)
 
+-- and drops at most one byte of three
+unstuffBehind-least : (z : ℕ) (s : List ℕ) → 2 * length s ≤ 3 * length (unstuffBehind z s) + z
+unfolding unstuffBehind
+unstuffBehind-least z [] = omega arith
+unstuffBehind-least z (b ∷ s) = go (leb 2 z) refl (eqb b 3) (unstuffBehind-least (zerosKept z b) s) where
+  go : (t : Bool) → leb 2 z ≡ t → (u : Bool) → 2 * length s ≤ 3 * length (unstuffBehind (cond (t && u) 0 (zerosBehind z b)) s) + cond (t && u) 0 (zerosBehind z b)
+      → 2 * length (b ∷ s) ≤ 3 * length (cond (t && u) [] (b ∷ []) ++ unstuffBehind (cond (t && u) 0 (zerosBehind z b)) s) + z
+  go true e true h = omega (arith, leb-true 2 z e, h)
+  go true e false h = omega (arith, zerosBehind-rise z b, h)
+  go false e u h = omega (arith, zerosBehind-rise z b, h)
+
+pub unstuff-least : (s : List ℕ) → 2 * length s ≤ 3 * length (unstuff s)
+unstuff-least s = rw (unstuff-machine s) (omega (arith, unstuffBehind-least 0 s))
+
 -- adding never shortens
 pub stuff-longer : (x : List ℕ) → length x ≤ length (stuff x)
 stuff-longer x = rw (unstuff-stuff x) at (unstuff-length (stuff x))

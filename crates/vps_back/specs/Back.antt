@@ -11,8 +11,9 @@ use lib.Seq.{take-append-seam}
 use Rattle.refusals.specs.Answer.{Answer}
 use Rattle.refusals.specs.Answer.Answer.{success, refusal}
 use Rattle.refusals.specs.Number.{record-too-short, output-too-short}
-use Rattle.stuffing.specs.Answers.{lent, outputAfter}
-use Rattle.vps_definition.specs.Writing.{same, writeRecord}
+use Rattle.refusals.specs.Lent.{lent, outputAfter}
+use Rattle.lists.specs.Same.{same}
+use Rattle.vps_definition.specs.Writing.{writeRecord}
 use Rattle.vps_reader.specs.Parse.{Parse, parseNumber, parseUnit}
 use Rattle.vps_reader.specs.Parse.Parse.{accepted, too-short, refused}
 use Rattle.vps_reader.specs.Answers.{parsedAnswer, Gives}

@@ -7,9 +7,7 @@ use native.Mathlib.Numerals.{add-one}
 use native.Mathlib.Omega.{arith}
 use lib.ListN.{length, getD, take}
 use lib.Seq.{take-suc, take-all}
-use Rattle.vps_definition.specs.Writing.{same}
-use Rattle.vps_laws.specs.Units.{same-true}
-use Rattle.vps_laws.specs.Accepted.{same-refl}
+use Rattle.lists.specs.Same.{same, same-true, same-refl}
 
 module _ (a b : List ℕ) where
   same-not : (a ≡ b → ⊥) → false ≡ same a b

@@ -1,7 +1,8 @@
 // Reads one unit from standard input, writes its record, and prints whether the bytes are the same.
 ghost use mathlib.Core.Path.{_≡_};
 ghost use lib.ListN.{take};
-ghost use Rattle.vps_definition.specs.Writing.{same, writeRecord};
+ghost use Rattle.lists.specs.Same.{same};
+ghost use Rattle.vps_definition.specs.Writing.{writeRecord};
 ghost use Rattle.vps_back.specs.Back.{said, writtenBack, back};
 use libc::STDIN_FILENO;
 use libc::STDOUT_FILENO;

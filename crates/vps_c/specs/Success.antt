@@ -11,8 +11,8 @@ use lib.ListN.{length}
 use Rattle.refusals.specs.Answer.{Answer}
 use Rattle.refusals.specs.Answer.Answer.{success, refusal}
 use Rattle.refusals.specs.Number.{unit-too-short, work-too-short, sublayers-reserved, timing-index, stop-bit-missing, alignment-bit-one, record-too-short, output-too-short}
+use Rattle.refusals.specs.Lent.{lent}
 use Rattle.stuffing.specs.Stuffing.{unstuff}
-use Rattle.stuffing.specs.Answers.{lent}
 use Rattle.vps_definition.specs.Rules.{today}
 use Rattle.vps_definition.specs.Reading.{Reading, readRbsp, most-rbsp-bytes, vps-nut}
 use Rattle.vps_definition.specs.Reading.Reading.{accepts, refuses}

@@ -2,8 +2,8 @@
 // 0, or a refusal's number, and stores what else it has to say where a reference points.
 ghost use mathlib.Core.Path.{_≡_};
 ghost use Prim.Native.Nat.{_+_};
+ghost use Rattle.refusals.specs.Lent.{lent, outputAfter};
 ghost use Rattle.stuffing.specs.Stuffing.{unstuff, stuff};
-ghost use Rattle.stuffing.specs.Answers.{lent, outputAfter};
 ghost use Rattle.vps_definition.specs.Writing.{writeRecord};
 ghost use Rattle.vps_definition.specs.Lookup.{sectionStart, sectionEnd};
 ghost use Rattle.vps_reader.specs.Parse.{parseUnit};

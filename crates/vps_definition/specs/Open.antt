@@ -1,5 +1,6 @@
 -- Every definition that a closed case computes by: an `unfolding opened` line stands for them all.
 use lib.Count.{onesIn, leadingZeros}
+use Rattle.lists.specs.Same.{same}
 use Rattle.stuffing.specs.Stuffing.{unstuff, stuffBehind, stuff}
 use Rattle.bits.specs.Bits.{bitAt, fieldAt, onesAt, bitsOf, pack}
 use Rattle.bits.specs.Code.{zerosAt, codeBehind, codeAt, codeOf}
@@ -13,7 +14,7 @@ use Rattle.vps_definition.specs.TimingHrd.{general-timing-hrd, du-values
 use Rattle.vps_definition.specs.Vps.{headerUnder, direct-reference, dependent-layer, independent-layer, layer, layers-section, output-flag, row, rows-section, no-rows, sets-section, slotAt, slot-number-if, ptl-head, ptl-slot, ptl-section, ols-section, multi-layer-sections, single-layer-sections, buffer-sections, vpsUnder}
 use Rattle.vps_definition.specs.Record.{bodyOf, recordOf, startOf, endOf}
 use Rattle.vps_definition.specs.Reading.{bitsAt, dataBits, extensionBits, ended, closed, readRbspUnder, limitedBy, unitBy}
-use Rattle.vps_definition.specs.Writing.{same, allFlags, endsInOne, extensionGood, extensionOf, rbspOf, unitOf, limited, partsGood, finished, writeRecordUnder, wellFormedUnder}
+use Rattle.vps_definition.specs.Writing.{allFlags, endsInOne, extensionGood, extensionOf, rbspOf, unitOf, limited, partsGood, finished, writeRecordUnder, wellFormedUnder}
 use Rattle.vps_definition.specs.Lookup.{sectionStart, sectionEnd, sectionOf}
 use Rattle.vps_definition.specs.Layout.{fromSection, entryLength, idsFrom, layerIds, ptlCount, setCount, ptlIndices, dpbCount, behindSlots, dpbEntries, multiCount, fifths, dpbIndices, timingFlag, timingCount, timingIndices}
 use Rattle.vps_definition.specs.Views.{headerOf, layersOf, setsReadOf, refsOf, setsOf, layerInSet, slotOf, timingNumbers, hrdOf, scheduleLength, schedulesLength, sublayerLength, behindEntry, again, timingEntry, sublayerCount, sublayerAt, nalScheduleAt, vclScheduleAt}

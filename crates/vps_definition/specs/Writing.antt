@@ -7,6 +7,7 @@ use lib.ListN.{length, getD, take, drop}
 use Rattle.refusals.specs.Answer.{Answer}
 use Rattle.refusals.specs.Answer.Answer.{success, refusal}
 use Rattle.refusals.specs.Number.{not-well-formed}
+use Rattle.lists.specs.Same.{same}
 use Rattle.stuffing.specs.Stuffing.{stuff}
 use Rattle.bits.specs.Bits.{pack}
 use Rattle.bits.specs.Writing.{trailingBits}
@@ -17,13 +18,6 @@ use Rattle.vps_definition.specs.Syntax.{Token}
 use Rattle.vps_definition.specs.Vps.{vpsUnder}
 use Rattle.vps_definition.specs.Record.{recordOf}
 use Rattle.vps_definition.specs.Reading.{most-rbsp-bytes}
-
--- the same list
-unfoldable pub same : List ℕ → List ℕ → Bool
-same [] [] = true
-same [] (y ∷ ys) = false
-same (x ∷ xs) [] = false
-same (x ∷ xs) (y ∷ ys) = elim (eqb x y) [ true ↦ same xs ys | false ↦ false ]
 
 -- ── The extension ─────────────────────────────────────────────────────
 unfoldable pub allFlags : List ℕ → Bool

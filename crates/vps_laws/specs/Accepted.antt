@@ -4,12 +4,13 @@ use mathlib.Core.Path.{_≡_, refl, sym, ap, _∙_, subst⁻¹}
 use mathlib.Core.List.{List, [], _∷_, _++_, append-assoc}
 use mathlib.Core.Bool.{true, false}
 use native.Mathlib.Omega.{arith}
-use borrow.Author.Tests.{le-leb, eq-eqb}
+use borrow.Author.Tests.{le-leb}
 use lib.ListN.{length, getD, drop, List·getD-append}
 use lib.Seq.{take-append-seam, drop-append-seam}
 use Rattle.refusals.specs.Answer.{Answer}
 use Rattle.refusals.specs.Answer.Answer.{success, refusal}
 use Rattle.refusals.specs.Number.{not-well-formed}
+use Rattle.lists.specs.Same.{same-refl}
 use Rattle.bits.specs.Bits.{toBoundary}
 use Rattle.bits.specs.TrailingLaws.{trails-inside}
 use Rattle.vps_definition.specs.Rules.{Rules}
@@ -20,7 +21,7 @@ use Rattle.vps_definition.specs.Vps.{vpsUnder}
 use Rattle.vps_definition.specs.Record.{bodyOf, recordOf}
 use Rattle.vps_definition.specs.Reading.{bitsAt, extensionBits, readRbspUnder, most-rbsp-bytes}
 use Rattle.vps_definition.specs.Reading.Reading.{accepts}
-use Rattle.vps_definition.specs.Writing.{same, extensionGood, extensionOf, rbspOf, unitOf, limited, partsGood, finished, writeRecordUnder}
+use Rattle.vps_definition.specs.Writing.{extensionGood, extensionOf, rbspOf, unitOf, limited, partsGood, finished, writeRecordUnder}
 use Rattle.vps_laws.specs.Writing.{emit-bits}
 use Rattle.vps_laws.specs.RoundTrip.{Emits, run-emit}
 use Rattle.vps_laws.specs.Keeps.{keeps-general}
@@ -59,11 +60,6 @@ begun general x l = record { at = λ i h. List·getD-append general x 0 i (omega
 extension-of : (general : List ℕ) (t : List Token) (e : List ℕ) → extensionOf (closing general t e) ≡ e
 unfolding extensionOf
 extension-of general t e = take-append-seam e (starts 9 t ++ ((length (bodyOf general t e) + 8) ∷ []))
-
-pub same-refl : (x : List ℕ) → same x x ≡ true
-unfolding same
-same-refl [] = refl
-same-refl (a ∷ x) = rw (eq-eqb a a refl, same) (same-refl x)
 
 -- ── What was read is written ──────────────────────────────────────────
 pub finished-of : (r general : List ℕ) (t : List Token) (y b e : List ℕ) → extensionOf y ≡ e → recordOf general t e ≡ r → extensionGood (getD general 8 0) e ≡ true

@@ -9,6 +9,7 @@ use native.Mathlib.Omega.{arith}
 use borrow.Author.Tests.{leb-true, leb-false, eqb-true, le-leb, lt-leb, eq-eqb, ne-eqb}
 use lib.Dec.{leb, eqb}
 use lib.ListN.{length, replicate}
+use Rattle.lists.specs.Table.{and-both}
 use Rattle.bits.specs.Bits.{bitAt, onesAt}
 use Rattle.bits.specs.Reading.{moreData}
 use Rattle.bits.specs.FieldLaws.{BitsAt, bit-lt, ones-split}
@@ -16,7 +17,6 @@ use Rattle.bits.specs.ByteLaws.{AllBits}
 use Rattle.vps_definition.specs.Words.{sum}
 use Rattle.vps_definition.specs.Reading.{bitsAt, dataBits, extensionBits}
 use Rattle.vps_definition.specs.Writing.{allFlags, endsInOne, extensionGood}
-use Rattle.vps_laws.specs.OutputLayerSets.{and-both}
 
 -- ── Bits at a place ───────────────────────────────────────────────────
 pub bits-at-length : (s : List ℕ) (at n : ℕ) → length (bitsAt s at n) ≡ n

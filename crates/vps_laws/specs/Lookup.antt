@@ -7,13 +7,13 @@ use native.Mathlib.Omega.{arith}
 use borrow.Author.Tests.{leb-true, le-leb, lt-leb, lt-ltb, ltb-true, ltb-false}
 use lib.Dec.{leb, ltb, lit<}
 use lib.ListN.{length, getD, drop}
+use Rattle.lists.specs.Table.{and-both}
 use Rattle.stuffing.specs.Stuffing.{unstuff}
 use Rattle.vps_definition.specs.Rules.{Rules, today}
 use Rattle.vps_definition.specs.Syntax.{Token, numbers, starts}
 use Rattle.vps_definition.specs.Record.{recordOf, startOf, endOf}
 use Rattle.vps_definition.specs.Writing.{wellFormedUnder, wellFormed}
 use Rattle.vps_definition.specs.Lookup.{sectionStart, sectionEnd}
-use Rattle.vps_laws.specs.OutputLayerSets.{and-both}
 use Rattle.vps_laws.specs.Units.{rbsp-parts, written-read}
 use Rattle.vps_laws.specs.Accepted.{general-read}
 use Rattle.vps_laws.specs.Marks.{marks, starts-length, starts-most, starts-rise, start-listed}

@@ -10,6 +10,7 @@ use mathlib.Core.List.{List, []}
 use mathlib.Core.Logic.{_⊎_, inl, inr, ⊎-elim}
 use mathlib.Core.Path.{_≡_, refl, sym, ap, ap₂, _∙_}
 use mathlib.Core.Bool.{Bool, true, false, _&&_, _||_, false≢true}
+use Rattle.lists.specs.Table.{and-both}
 use Rattle.vps_definition.specs.OutputLayerSets.{anyBelow, digit, countBelow, withReached, reachesIn, reaches, included, Reaches, flagged, refersBy, inSet, totalNumOlss, numLayersInOls, numMultiLayerOlss}
 use Rattle.vps_definition.specs.OutputLayerSets.Reaches.{direct, through}
 use Rattle.vps_definition.specs.OutputLayerSets.Sets.{each-layer, up-to, chosen}
@@ -44,10 +45,6 @@ reaches-law d i j = with-ext i _ _ (d i) (d i) j refl (λ k l. refl) (λ k l. st
 pub or-cases : (a b : Bool) → (a || b) ≡ true → (a ≡ true) ⊎ (b ≡ true)
 or-cases true b e = inl refl
 or-cases false b e = inr e
-
-pub and-both : (a b : Bool) → (a && b) ≡ true → (a ≡ true) × (b ≡ true)
-and-both true b e = (refl, e)
-and-both false b e = absurd (false≢true e)
 
 or-left : (a b : Bool) → a ≡ true → (a || b) ≡ true
 or-left a b e = simp e

@@ -9,6 +9,7 @@ use lib.Dec.{ltb, leb, eqb}
 use lib.ListN.{length, getD, take, drop}
 use lib.Seq.{drop-at, drop-drop}
 use Rattle.refusals.specs.Number.{timing-max-tid, timing-index}
+use Rattle.lists.specs.Table.{and-both}
 use Rattle.vps_definition.specs.Syntax.{Syntax, _>>=_, Token, numbers, run}
 use Rattle.vps_definition.specs.Syntax.Token.{number}
 use Rattle.vps_definition.specs.Words.{u, ue, u-if, ue-if, check, nothing, when, loop, repeat}
@@ -19,7 +20,6 @@ use Rattle.vps_definition.specs.Views.{timingNumbers, no-hrd, hrdOf, timingSubl
 use Rattle.vps_laws.specs.Keeps.{Keeps, keeps-so, keeps-bind, keeps-test, keeps-done, keeps-u, keeps-u-if, keeps-ue-if, keeps-ue-minus1, keeps-check}
 use Rattle.vps_laws.specs.Tables.{local-general-timing-hrd}
 use Rattle.vps_laws.specs.Indices.{Long, long-bind, long-one, long-u, long-u-if, long-ue, long-ue-if, long-check, long-nothing, long-loop, long-general-timing-hrd}
-use Rattle.vps_laws.specs.OutputLayerSets.{and-both}
 use Rattle.vps_laws.specs.Places.{ReadAt, read-keeps, read-look, read-first, read-else, Passes, long-passes, read-both, passes-loop, read-again, again-drop, get-drop, Ends, read-ends, ends-on}
 
 -- ── Lengths ───────────────────────────────────────────────────────────

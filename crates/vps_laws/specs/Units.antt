@@ -9,6 +9,8 @@ use lib.Dec.{leb, eqb, lit<}
 use lib.ListN.{length, getD, drop, replicate, length-append}
 use Rattle.refusals.specs.Answer.{Answer}
 use Rattle.refusals.specs.Answer.Answer.{success, refusal}
+use Rattle.lists.specs.Table.{and-both}
+use Rattle.lists.specs.Same.{same, same-true}
 use Rattle.stuffing.specs.Stuffing.{unstuff, stuff}
 use Rattle.stuffing.specs.Laws.{unstuff-stuff}
 use Rattle.bits.specs.Bits.{pack, toBoundary}
@@ -25,8 +27,7 @@ use Rattle.vps_definition.specs.Vps.{vpsUnder}
 use Rattle.vps_definition.specs.Record.{recordOf}
 use Rattle.vps_definition.specs.Reading.{Reading, bitsAt, extensionBits, ended, closed, readRbspUnder, most-rbsp-bytes, limitedBy, vps-nut, unitBy, readUnitUnder}
 use Rattle.vps_definition.specs.Reading.Reading.{accepts, refuses}
-use Rattle.vps_definition.specs.Writing.{same, extensionGood, extensionOf, rbspOf, unitOf, limited, partsGood, finished, writeRecordUnder}
-use Rattle.vps_laws.specs.OutputLayerSets.{and-both}
+use Rattle.vps_definition.specs.Writing.{extensionGood, extensionOf, rbspOf, unitOf, limited, partsGood, finished, writeRecordUnder}
 use Rattle.vps_laws.specs.Writing.{emit-run, emit-bits}
 use Rattle.vps_laws.specs.Extension.{bits-at-stand, good-bits, extension-stands}
 
@@ -96,17 +97,6 @@ unfolding unitBy limitedBy
 accepted-unit rules a b s r n h l e = rw (eq-eqb (b / 8) vps-nut h, unitBy) (rw (le-leb (length (unstuff s)) most-rbsp-bytes l, limitedBy) e)
 
 -- ── What is written reads back ────────────────────────────────────────
-pub same-true : (x y : List ℕ) → same x y ≡ true → x ≡ y
-unfolding same
-same-true [] [] e = refl
-same-true [] (b ∷ y) e = absurd (let n : _≡_ {A = ℕ} 0 1 = cc in omega arith)
-same-true (a ∷ x) [] e = absurd (let n : _≡_ {A = ℕ} 0 1 = cc in omega arith)
-same-true (a ∷ x) (b ∷ y) e = go (same-true x y) (eqb a b) refl e
-  where
-    go : (same x y ≡ true → x ≡ y) → (c : Bool) → eqb a b ≡ c → elim c as (λ d. Bool) [ true ↦ same x y | false ↦ false ] ≡ true → a ∷ x ≡ b ∷ y
-    go h true f g = ap (λ (n : ℕ). n ∷ x) (eqb-true a b f) ∙ ap (λ (l : List ℕ). b ∷ l) (h g)
-    go h false f g = absurd (let n : _≡_ {A = ℕ} 0 1 = cc in omega arith)
-
 -- the bits of an RBSP, and how many bytes they are
 pub record Packed (b e : List ℕ) : Type 0 where
   pub stands : BitsAt (rbspOf b e) 0 ((b ++ e) ++ trailingBits (length (b ++ e)))

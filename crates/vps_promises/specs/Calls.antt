@@ -11,8 +11,9 @@ use lib.Seq.{take-append-seam, drop-append-seam}
 use Rattle.refusals.specs.Answer.{Answer}
 use Rattle.refusals.specs.Answer.Answer.{success, refusal}
 use Rattle.refusals.specs.Number.{unit-too-short, not-a-vps, rbsp-too-long, work-too-short, sublayers-reserved, timing-index, stop-bit-missing, alignment-bit-one, record-too-short, not-well-formed, output-too-short}
+use Rattle.refusals.specs.Lent.{lent, outputAfter}
+use Rattle.lists.specs.Stored.{overlaid}
 use Rattle.stuffing.specs.Stuffing.{unstuff}
-use Rattle.stuffing.specs.Answers.{lent, outputAfter}
 use Rattle.vps_definition.specs.Rules.{today}
 use Rattle.vps_definition.specs.Reading.{Reading, readRbsp, limitedBy, unitBy, readUnit, most-rbsp-bytes, vps-nut}
 use Rattle.vps_definition.specs.Reading.Reading.{accepts, refuses}
@@ -20,7 +21,7 @@ use Rattle.vps_definition.specs.Writing.{writeRecord, wellFormed}
 use Rattle.vps_laws.specs.Claims.{refused-ill-formed}
 use Rattle.vps_laws.specs.Records.{of-record, ill-formed-refused}
 use Rattle.vps_laws.specs.Says.{Among, ReadingSays, rbsp-says}
-use Rattle.vps_reader.specs.Parse.{Parse, parseNumber, parseValues, overlaid, untouched, parseOf, recordAfter, parseRbsp, parsePayload, parseUnit}
+use Rattle.vps_reader.specs.Parse.{Parse, parseNumber, parseValues, untouched, parseOf, recordAfter, parseRbsp, parsePayload, parseUnit}
 use Rattle.vps_reader.specs.Parse as Parse
 use Rattle.vps_reader.specs.Parse.Parse.{accepted, too-short, refused}
 use Rattle.vps_reader.specs.Answers.{parsedAnswer, Gives}

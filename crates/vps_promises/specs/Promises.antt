@@ -12,6 +12,7 @@ use lib.ListN.{length, getD, take, drop}
 use Rattle.refusals.specs.Answer.{Answer}
 use Rattle.refusals.specs.Answer.Answer.{success, refusal}
 use Rattle.refusals.specs.Number.{work-too-short, record-too-short, not-well-formed, output-too-short}
+use Rattle.lists.specs.Stored.{overlaid}
 use Rattle.stuffing.specs.Stuffing.{unstuff}
 use Rattle.bits.specs.FieldLaws.{Agree}
 use Rattle.vps_definition.specs.Layout.{layerIds, ptlCount, setCount, ptlIndices, dpbCount, multiCount, dpbIndices, timingFlag, timingCount, timingIndices}
@@ -20,7 +21,6 @@ use Rattle.vps_definition.specs.Reading.Reading.{accepts, refuses}
 use Rattle.vps_definition.specs.Writing.{wellFormed}
 use Rattle.vps_laws.specs.Reading.{Each, Gapless}
 use Rattle.vps_laws.specs.Promises as Promised
-use Rattle.vps_reader.specs.Parse.{overlaid}
 use Rattle.vps_reader.specs.Parse.Parse.{accepted}
 use Rattle.vps_reader.specs.Answers.{parsedAnswer}
 use Rattle.vps_writer.specs.Write.{writtenAnswer}

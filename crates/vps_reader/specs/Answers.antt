@@ -8,13 +8,13 @@ use lib.Dec.{leb}
 use lib.ListN.{length}
 use lib.Seq.{sets}
 use mathlib.Core.Bool.{true, false}
+use Rattle.lists.specs.Stored.{stored-whole}
 use Rattle.vps_definition.specs.Reading.{Reading, readLimited}
 use Rattle.vps_definition.specs.Reading.Reading.{refuses}
 use Rattle.read_vps.specs.declared.Whole.{Whole}
 use Rattle.vps_reader.specs.Parse.{Parse, parseOf, recordAfter}
 use Rattle.vps_reader.specs.Parse as Parse
 use Rattle.vps_reader.specs.Parse.Parse.{accepted, too-short, refused}
-use Rattle.vps_reader.specs.Stored.{stored-whole}
 use Rattle.vps_reader.specs.Measures.{Found, recordIn, found-accepts, found-length}
 use Rattle.vps_reader.specs.declared.Parsed.{Parsed}
 use Rattle.vps_reader.specs.declared.Parsed.the-variants.{Accepted, TooShort, Refused}

@@ -1,10 +1,11 @@
 -- What parse_vps says, and what the lent work buffer and record hold afterwards, for every unit and every buffer.
 use Prim.Native.Nat.{ℕ, _/_}
-use mathlib.Core.List.{List, [], _∷_, _++_}
+use mathlib.Core.List.{List, [], _∷_}
 use mathlib.Core.Bool.{cond}
 use lib.Dec.{leb, eqb}
-use lib.ListN.{length, drop}
+use lib.ListN.{length}
 use Rattle.refusals.specs.Number.{unit-too-short, not-a-vps, rbsp-too-long, work-too-short, record-too-short}
+use Rattle.lists.specs.Stored.{overlaid}
 use Rattle.stuffing.specs.Stuffing.{unstuff}
 use Rattle.vps_definition.specs.Reading.{Reading, readRbsp, most-rbsp-bytes, vps-nut}
 use Rattle.vps_definition.specs.Reading.Reading.{accepts, refuses}
@@ -28,10 +29,6 @@ abbrev pub parseValues : Parse → List ℕ
 parseValues (accepted n bits) = n ∷ bits ∷ []
 parseValues (too-short needed) = needed ∷ []
 parseValues (refused k) = []
-
--- numbers at the beginning of a lent slice, and what was behind them
-abbrev pub overlaid : (numbers lent : List ℕ) → List ℕ
-overlaid x lent = x ++ drop (length x) lent
 
 -- what a reading makes of a lent record: the record where there is room, or nothing
 unfoldable pub parseOf : (lent : List ℕ) → Reading → Parse

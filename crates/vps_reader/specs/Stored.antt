@@ -1,23 +1,18 @@
 -- A record that is stored part by part from the first number on is the whole record.
-use Prim.Native.Nat.{ℕ, suc, _+_, _≤_}
+use Prim.Native.Nat.{ℕ, suc, _+_}
 use mathlib.Core.Path.{_≡_, refl, sym, ap, _∙_}
 use mathlib.Core.List.{List, [], _∷_, _++_, append-assoc}
 use native.Mathlib.Nat.{zero-add}
 use native.Mathlib.Omega.{arith}
-use lib.ListN.{length, set, drop, length-append}
-use lib.Seq.{sets, sets-eq}
+use lib.ListN.{length, set, length-append}
+use lib.Seq.{sets}
+use Rattle.lists.specs.Stored.{sets-append}
 use Rattle.vps_definition.specs.Syntax.{Token, numbers, starts}
 use Rattle.vps_definition.specs.Record.{bodyOf, recordOf}
-use Rattle.read_steps.specs.Laws.{sets-append}
-use Rattle.vps_reader.specs.Parse.{overlaid}
 
 -- one list behind another
 pub stored-behind : (lent : List ℕ) (x y : List ℕ) {n : ℕ} → n ≡ length x → sets (sets lent 0 x) n y ≡ sets lent 0 (x ++ y)
 stored-behind lent x y {n} e = ap (λ (k : ℕ). sets (sets lent 0 x) k y) (e ∙ sym (zero-add (length x))) ∙ sym (sets-append lent 0 x y)
-
--- where there is room, they then stand at the beginning
-pub stored-whole : (lent x : List ℕ) → length x ≤ length lent → sets lent 0 x ≡ overlaid x lent
-stored-whole lent x l = sets-eq x lent 0 (omega (arith, l)) ∙ ap (λ (k : ℕ). x ++ drop k lent) (zero-add (length x))
 
 -- General, the table's numbers, the extension with its count, the starts, and the total length
 module _ (lent g : List ℕ) (t : List Token) (e : List ℕ) (nine : length g ≡ 9) where

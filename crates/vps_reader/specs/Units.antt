@@ -10,13 +10,14 @@ use lib.ListN.{length, getD, take, drop, length-append}
 use lib.Seq.{take-length, take-append-seam}
 use Rattle.refusals.specs.Answer.Answer.{success, refusal}
 use Rattle.refusals.specs.Number.{unit-too-short, not-a-vps, rbsp-too-long, work-too-short, output-too-short}
+use Rattle.refusals.specs.Lent.{lent, outputAfter}
 use Rattle.stuffing.specs.Stuffing.{unstuff}
 use Rattle.stuffing.specs.Laws.{unstuff-length}
-use Rattle.stuffing.specs.Answers.{stuffedAnswer, lent, outputAfter, Lends}
+use Rattle.stuffing.specs.Answers.{stuffedAnswer, Lends}
 use Rattle.stuffing.specs.declared.Stuffed.{Stuffed}
 use Rattle.stuffing.specs.declared.Stuffed as Said
 use Rattle.vps_definition.specs.Reading.{readRbsp, readLimited, most-rbsp-bytes, vps-nut}
-use Rattle.vps_reader.specs.Parse.{overlaid, untouched, parseOf, recordAfter, parseRbsp, parsePayload, parseUnit}
+use Rattle.vps_reader.specs.Parse.{untouched, parseOf, recordAfter, parseRbsp, parsePayload, parseUnit}
 use Rattle.vps_reader.specs.Parse as Parse
 use Rattle.vps_reader.specs.Measures.{limited-short}
 use Rattle.vps_reader.specs.Answers.{Answers, Gives}

@@ -4,7 +4,7 @@ use mathlib.Core.Path.{_≡_, refl}
 use mathlib.Core.List.{List, [], _∷_}
 use Rattle.vps_definition.specs.Open.{opened}
 use Rattle.vps_reader.specs.Parse.{parseOf, recordAfter, parseRbsp, parsePayload, parseUnit}
-use Rattle.vps_show.specs.Decimal.{decimalIn}
+use Rattle.text_numbers.specs.Decimal.{decimalIn}
 use Rattle.vps_show.specs.Shown.{spaced, firstLines, lastLines, okText, recordText, shown, shownUnit, shownInput}
 
 pub unit : List ℕ

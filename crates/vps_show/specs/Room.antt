@@ -11,6 +11,7 @@ use lib.ListN.{length, replicate, drop, length-append, length-take, length-repli
 use lib.Seq.{take-append-seam}
 use Rattle.io.specs.Counts.{Counts}
 use Rattle.refusals.specs.Number.{record-too-short}
+use Rattle.lists.specs.Stored.{overlaid}
 use Rattle.stuffing.specs.Stuffing.{unstuff}
 use Rattle.vps_definition.specs.Rules.{today}
 use Rattle.vps_definition.specs.Record.{startOf, endOf}
@@ -19,9 +20,10 @@ use Rattle.vps_definition.specs.Reading.Reading.{accepts, refuses}
 use Rattle.vps_laws.specs.Units.{accepted-unit}
 use Rattle.vps_laws.specs.Lookup.{Inside, section-inside}
 use Rattle.vps_laws.specs.Promises.{accepted-is-written}
-use Rattle.vps_reader.specs.Parse.{Parsed, overlaid, untouched, parseOf, recordAfter, parseRbsp, parsePayload, parseUnit}
-use Rattle.vps_show.specs.Text.{Puts, puts-whole, puts-counts}
-use Rattle.vps_show.specs.Decimal.{decimal32, places-most}
+use Rattle.vps_reader.specs.Parse.{Parsed, untouched, parseOf, recordAfter, parseRbsp, parsePayload, parseUnit}
+use Rattle.texts.specs.Text.{Puts, puts-whole}
+use Rattle.text_numbers.specs.Counted.{puts-counts}
+use Rattle.text_numbers.specs.Decimal.{decimal32, places-most}
 use Rattle.vps_show.specs.Shown.{spaced, newline, part, line, generalName, layersName, rowsName, ptlsName, olsName, dpbName, timingName, extensionName, trailerName, firstLines, lastLines, okText, recordText, refusedText, shown, unit-bytes, record-numbers, shownUnit, tooLong, shownInput}
 
 -- a space and ten digits

@@ -12,8 +12,8 @@ use lib.Seq.{drop-cons, take-all}
 use Rattle.vps_definition.specs.Record.{startOf, endOf}
 use Rattle.vps_reader.specs.Parse.{Parse, parseNumber, parseUnit}
 use Rattle.vps_reader.specs.Parse.Parse.{accepted, too-short, refused}
-use Rattle.vps_show.specs.Decimal.{decimal, decimal32}
-use Rattle.vps_show.specs.Text.{Puts, puts-length, puts-none, puts-then}
+use Rattle.text_numbers.specs.Decimal.{decimal, decimal32}
+use Rattle.texts.specs.Text.{Puts, puts-length, puts-none, puts-then}
 
 -- each number of 32 bits behind a space
 unfoldable pub spaced : List ℕ → List ℕ

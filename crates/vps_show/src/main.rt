@@ -1,9 +1,9 @@
 // Reads one unit from standard input and prints its record, a line a section, or its refusal.
 ghost use mathlib.Core.Path.{_≡_};
 ghost use lib.ListN.{length};
+ghost use Rattle.lists.specs.Stored.{overlaid};
 ghost use Rattle.io.specs.Counts.{Counts};
-ghost use Rattle.vps_reader.specs.Parse.{overlaid};
-ghost use Rattle.vps_show.specs.Text.{Puts};
+ghost use Rattle.texts.specs.Text.{Puts};
 ghost use Rattle.vps_show.specs.Shown.{shownUnit, shownInput};
 
 mod shown;
@@ -11,6 +11,7 @@ mod text;
 
 use libc::STDIN_FILENO;
 use libc::STDOUT_FILENO;
+use texts::put;
 use vps_reader::parse_vps;
 
 // The bytes of a unit, and of the work buffer.
@@ -50,7 +51,7 @@ fn show(input: &[u8], text: &mut [u8; TEXT_BYTES]) -> usize
     if input.len() <= UNIT_BYTES {
         return show_unit(input, text);
     }
-    text::put(text, 0, b"too long\n")
+    put(text, 0, b"too long\n")
 }
 
 fn main() {

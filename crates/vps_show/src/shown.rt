@@ -2,14 +2,14 @@
 ghost use mathlib.Core.Path.{_≡_};
 ghost use Prim.Native.Nat.{min};
 ghost use Rattle.vps_reader.specs.Answers.{parsedAnswer};
-ghost use Rattle.vps_show.specs.Text.{Puts};
+ghost use Rattle.texts.specs.Text.{Puts};
 ghost use Rattle.vps_show.specs.Shown.{line, firstLines, lastLines, recordText, okText, refusedText, shown};
-use crate::text::put;
 use crate::text::put_number;
 use crate::text::put_numbers;
 use record_parts::end_of;
 use record_parts::start_of;
 use refusals::RECORD_TOO_SHORT;
+use texts::put;
 use vps_reader::Parsed;
 
 fn least(a: usize, b: usize) -> usize

@@ -13,8 +13,8 @@ use lib.Seq.{sets, sets-eq, length-sets, length-take-le, take-at, drop-cons, get
 use Rattle.refusals.specs.Answer.{Answer}
 use Rattle.refusals.specs.Answer.Answer.{success, refusal}
 use Rattle.refusals.specs.Number.{not-well-formed, output-too-short}
+use Rattle.refusals.specs.Lent.{lent, outputAfter}
 use Rattle.stuffing.specs.Stuffing.{stuff}
-use Rattle.stuffing.specs.Answers.{lent, outputAfter}
 use Rattle.bit_sink.specs.Holds.{limit}
 use Rattle.vps_definition.specs.Rules.{today}
 use Rattle.vps_definition.specs.Syntax.{Token, numbers, starts, Written, emit}

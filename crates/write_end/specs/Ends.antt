@@ -12,6 +12,7 @@ use lib.Seq.{take-all, drop-cons, drop-drop, getD-drop, length-take-le, sets}
 use Rattle.refusals.specs.Answer.{Answer}
 use Rattle.refusals.specs.Answer.Answer.{success, refusal}
 use Rattle.refusals.specs.Number.{not-well-formed}
+use Rattle.lists.specs.Table.{and-both}
 use Rattle.stuffing.specs.Stuffing.{stuff}
 use Rattle.vps_definition.specs.Syntax.{Syntax, _>>=_, Token, starts, Written, putting, emit}
 use Rattle.vps_definition.specs.Syntax.Token.{number}
@@ -19,7 +20,6 @@ use Rattle.vps_definition.specs.Syntax.Written.{wrote, bad}
 use Rattle.vps_definition.specs.Words.{inferred, repeat}
 use Rattle.vps_definition.specs.Reading.{most-rbsp-bytes}
 use Rattle.vps_definition.specs.Writing.{allFlags, endsInOne, extensionGood, extensionOf, rbspOf, unitOf, limited, partsGood, finished}
-use Rattle.vps_laws.specs.OutputLayerSets.{and-both}
 use Rattle.vps_laws.specs.Units.{rbsp-size}
 use Rattle.vps_laws.specs.Accepted.{finished-of}
 use Rattle.write_steps.specs.Does.{Fails}

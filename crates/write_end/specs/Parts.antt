@@ -6,12 +6,12 @@ use mathlib.Core.Bool.{Bool, true, false, _&&_}
 use native.Mathlib.Omega.{arith}
 use lib.ListN.{length, getD, take, drop, length-append, length-drop, take-append-drop}
 use lib.Seq.{length-take-le, drop-cons, take-at, drop-at, drop-append-seam, drop-drop}
+use Rattle.lists.specs.Table.{and-both}
+use Rattle.lists.specs.Same.{same, same-true, same-refl}
 use Rattle.vps_definition.specs.Syntax.{Token, numbers, starts}
 use Rattle.vps_definition.specs.Record.{bodyOf, recordOf}
-use Rattle.vps_definition.specs.Writing.{same, extensionGood, extensionOf, partsGood}
-use Rattle.vps_laws.specs.OutputLayerSets.{and-both}
-use Rattle.vps_laws.specs.Units.{same-true}
-use Rattle.vps_laws.specs.Accepted.{closing, record-parts, same-refl}
+use Rattle.vps_definition.specs.Writing.{extensionGood, extensionOf, partsGood}
+use Rattle.vps_laws.specs.Accepted.{closing, record-parts}
 
 -- the table has taken the record's numbers up to number c
 pub record Taken (r g : List ℕ) (t : List Token) (c : ℕ) : Type 0 where

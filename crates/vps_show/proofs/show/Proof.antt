@@ -1,6 +1,6 @@
 -- `show` meets its contract: the buffer suffices for the text of every input.
 use native.Mathlib.Omega.{arith}
-use Rattle.vps_show.specs.Text.{puts-same}
+use Rattle.texts.specs.Text.{puts-same}
 use Rattle.vps_show.specs.Shown.{shown-short, shown-long}
 use Rattle.vps_show.specs.Room.{shown-whole}
 use borrow.Author.Needs.{needs}

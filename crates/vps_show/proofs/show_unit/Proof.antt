@@ -1,5 +1,5 @@
 -- `show_unit` meets its contract.
-use Rattle.vps_show.specs.Text.{puts-same}
+use Rattle.texts.specs.Text.{puts-same}
 use Rattle.vps_show.specs.Shown.{shown, shownUnit}
 use borrow.Author.Needs.{needs}
 use Rattle.vps_show.proofs.show_unit.Statement.{statement}

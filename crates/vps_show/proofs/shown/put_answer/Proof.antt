@@ -3,7 +3,7 @@ use mathlib.Core.Path.{sym, ap}
 use native.Mathlib.Omega.{arith}
 use Rattle.vps_reader.specs.Parse.{Parse}
 use Rattle.vps_reader.specs.Answers.{parsedAnswer}
-use Rattle.vps_show.specs.Text.{puts-then, puts-same}
+use Rattle.texts.specs.Text.{puts-then, puts-same}
 use Rattle.vps_show.specs.Shown.{shown, recordText, first-part}
 use borrow.Author.Needs.{needs}
 use Rattle.vps_show.proofs.shown.put_answer.Statement.{statement}

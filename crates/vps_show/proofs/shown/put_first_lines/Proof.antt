@@ -1,5 +1,5 @@
 -- `put_first_lines` meets its contract: five lines, one behind the other.
-use Rattle.vps_show.specs.Text.{puts-then}
+use Rattle.texts.specs.Text.{puts-then}
 use Rattle.vps_show.specs.Shown.{firstLines}
 use borrow.Author.Needs.{needs}
 use Rattle.vps_show.proofs.shown.put_first_lines.Statement.{statement}

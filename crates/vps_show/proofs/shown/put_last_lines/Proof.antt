@@ -1,5 +1,5 @@
 -- `put_last_lines` meets its contract: four lines, one behind the other.
-use Rattle.vps_show.specs.Text.{puts-then}
+use Rattle.texts.specs.Text.{puts-then}
 use Rattle.vps_show.specs.Shown.{lastLines}
 use borrow.Author.Needs.{needs}
 use Rattle.vps_show.proofs.shown.put_last_lines.Statement.{statement}

@@ -1,5 +1,5 @@
 -- `put_line` meets its contract.
-use Rattle.vps_show.specs.Text.{puts-then, puts-same}
+use Rattle.texts.specs.Text.{puts-then, puts-same}
 use Rattle.vps_show.specs.Shown.{part-spaced}
 use borrow.Author.Needs.{needs}
 use Rattle.vps_show.proofs.shown.put_line.Statement.{statement}

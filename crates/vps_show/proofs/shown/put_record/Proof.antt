@@ -1,5 +1,5 @@
 -- `put_record` meets its contract.
-use Rattle.vps_show.specs.Text.{puts-then}
+use Rattle.texts.specs.Text.{puts-then}
 use Rattle.vps_show.specs.Shown.{recordText}
 use borrow.Author.Needs.{needs}
 use Rattle.vps_show.proofs.shown.put_record.Statement.{statement}

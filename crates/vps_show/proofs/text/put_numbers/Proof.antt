@@ -3,8 +3,8 @@ use Prim.Native.Nat.{ℕ, _-_}
 use mathlib.Core.Path.{ap, _∙_}
 use mathlib.Core.List.{List, _∷_}
 use native.Mathlib.Omega.{arith}
-use Rattle.vps_show.specs.Text.{puts-same}
-use Rattle.vps_show.specs.Decimal.{decimal, decimal-ten}
+use Rattle.texts.specs.Text.{puts-same}
+use Rattle.text_numbers.specs.Decimal.{decimal, decimal-ten}
 use Rattle.vps_show.specs.Shown.{Listing, listing-start, listing-turn, listing-stop, listing-done}
 use borrow.Author.Needs.{needs}
 use Rattle.vps_show.proofs.text.put_numbers.Statement.{statement}

@@ -2,10 +2,10 @@
 use Prim.Native.Nat.{_-_}
 use native.Mathlib.Omega.{arith}
 use lib.ListN.{length}
-use Rattle.vps_show.specs.Text.{Putting, putting-start, putting-turn, putting-stop, putting-done}
+use Rattle.texts.specs.Text.{Putting, putting-start, putting-turn, putting-stop, putting-done}
 use borrow.Author.Needs.{needs}
-use Rattle.vps_show.proofs.text.put.Statement.{statement}
-use Rattle.vps_show.proofs.text.put.Tie as tie
+use Rattle.texts.proofs.put.Statement.{statement}
+use Rattle.texts.proofs.put.Tie as tie
 
 abbrev Inv-loop : tie.InvT-loop
 Inv-loop text₀ at bytes next₀ i₀ text next i = Putting bytes at text₀ text next i

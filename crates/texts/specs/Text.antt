@@ -9,11 +9,8 @@ use native.Mathlib.Omega.{arith}
 use borrow.Author.Tests.{leb-true, leb-false}
 use lib.Dec.{leb}
 use lib.ListN.{length, set, take, drop, getD, length-set, length-take, length-append, take-append-drop}
-use lib.Seq.{sets, length-sets, set-out, length-take-le, take-suc, take-all}
-use Rattle.io.specs.Counts.{Counts}
-use Rattle.read_steps.specs.Laws.{sets-append}
-use Rattle.vps_reader.specs.Parse.{overlaid}
-use Rattle.vps_reader.specs.Stored.{stored-whole}
+use lib.Seq.{sets, length-sets, set-out, take-suc, take-all}
+use Rattle.lists.specs.Stored.{sets-append, overlaid, stored-whole}
 
 pub record Puts (x : List ℕ) (at next : ℕ) (text text′ : List ℕ) : Type 0 where
   pub stored : text′ ≡ sets text at x
@@ -30,10 +27,6 @@ puts-length {x} {at} {next} {text} p = ap length (p .stored) ∙ length-sets tex
 -- the same text in other words
 pub puts-same : {x y : List ℕ} {at next : ℕ} {text text′ : List ℕ} → x ≡ y → Puts x at next text text′ → Puts y at next text text′
 puts-same {x} {y} {at} {next} {text} {text′} e = subst (λ (z : List ℕ). Puts z at next text text′) e
-
--- what stands before the place behind it
-pub puts-counts : {x : List ℕ} {next : ℕ} {text text′ : List ℕ} → Puts x 0 next text text′ → Counts next text′
-puts-counts {x} {next} {text} {text′} p = let l : next ≤ length text′ = omega (arith, p .place, puts-length p) in (l, sym (length-take-le next text′ l))
 
 -- where there is room, the whole text stands at the beginning
 pub puts-whole : {x : List ℕ} {next : ℕ} {text text′ : List ℕ} → Puts x 0 next text text′ → length x ≤ length text → (next ≡ length x) × (text′ ≡ overlaid x text)

@@ -1,0 +1,3 @@
+pub mod Same
+pub mod Stored
+pub mod Table
