@@ -1,0 +1,6 @@
+pub mod Sentences
+pub mod Words
+pub mod Laws
+pub mod Promises
+pub mod Cases
+pub mod Answers
