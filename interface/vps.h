@@ -1,16 +1,19 @@
 /*
  * H.266 video parameter sets (VPS): reading a unit into a record, writing a record as a unit, looking up a record's sections,
- * and byte stuffing. The functions stand in the archive libvps_c.a (README.md says how to link it); each is proved to do what
- * is said here, for all bytes, numbers and lengths.
+ * byte stuffing, and refusals as sentences that can be read out. The functions stand in the archive libvps_c.a (README.md says how
+ * to link it); each is proved to do what is said here, for all bytes, numbers and lengths.
  *
- * Every function gives 0 (VPS_SUCCESS) or the number of a refusal, and never fails in another way. A buffer is a pointer and the
- * number of its elements. What a caller owes:
+ * Every function but vps_sentence_number, which gives the number that a sentence names, gives 0 (VPS_SUCCESS) or the number of a
+ * refusal. None fails in another way. A buffer is a pointer and the number of its elements. What a caller owes:
  *   - each pointer points to as many elements as its length says, and is not null, also where the length is 0;
  *   - a number that a function stores through a pointer has a place of its own, and no two buffers or numbers of one call overlap;
  *   - buffers of uint32_t and uint64_t are aligned as C aligns these types.
  * No function keeps a pointer, allocates, or uses anything but its arguments, so calls may run at the same time on different buffers.
  *
  * The record is a list of 32-bit numbers in nine sections. docs/DEFINITION.md and the definition that it maps say what each number is.
+ *
+ * The sentence of a refusal is three words with a blank between them: place, field and fault. No two refusals have the same, so
+ * that the sentence alone gives the number back. docs/REFUSALS.md has them all, with what each means and what to do.
  */
 #ifndef TEGLYOVASH_VPS_H
 #define TEGLYOVASH_VPS_H
@@ -30,6 +33,9 @@ extern "C" {
 
 /* The longest unit that is written, in bytes: an output of this length is long enough for every record. */
 #define VPS_MOST_UNIT_BYTES 98304
+
+/* Three words of at most 15 bytes each and two blanks: an output of this length is long enough for every sentence. */
+#define VPS_MOST_SENTENCE_BYTES 47
 
 /*
  * What a function gives: success, or a refusal by its number, with its place and condition; in order of checks, as a unit is read.
@@ -110,7 +116,7 @@ enum vps_answer {
 
     /* writer: not well formed */
     VPS_NOT_WELL_FORMED = 31,
-    /* writer, adding and removing stuffing: output too short */
+    /* writer, adding and removing stuffing, sentences: output too short */
     VPS_OUTPUT_TOO_SHORT = 32
 };
 
@@ -202,6 +208,30 @@ uint32_t vps_ebsp_to_rbsp(const uint8_t *source, size_t source_length, uint8_t *
  */
 uint32_t vps_rbsp_to_ebsp(const uint8_t *source, size_t source_length, uint8_t *output, size_t output_length,
                           uint64_t *length);
+
+/*
+ * Stores the sentence of a refusal: place, field and fault, each a word, with one blank between them.
+ *
+ * number                 a refusal's number (enum vps_answer), or any other number, whose sentence is the empty one
+ * output, output_length  where the sentence is stored; exactly as many bytes as it has are enough
+ * length                 see below
+ *
+ * 0           *length is the sentence's length in bytes; for 0 and every number that is not a refusal's it is 0. The sentence stands
+ *             at the beginning of output; what is behind it is as before, so there is no terminating zero.
+ * 32          output and *length are as before.
+ *
+ * No other number is given.
+ */
+uint32_t vps_sentence(uint32_t number, uint8_t *output, size_t output_length, uint64_t *length);
+
+/*
+ * Tells which refusal's sentence some bytes are.
+ *
+ * sentence, sentence_length  exactly the sentence, as vps_sentence stores it; it is not changed
+ *
+ * What is given is the refusal's number, and 0 for all other bytes, the empty ones too: it is no answer, and nothing is refused.
+ */
+uint32_t vps_sentence_number(const uint8_t *sentence, size_t sentence_length);
 
 #ifdef __cplusplus
 }

@@ -1,6 +1,6 @@
 /*
  * Reads each unit named on the command line, a file each, prints its record, a line a section, writes the record back, and says
- * whether the bytes are the same. A refusal is printed by its number.
+ * whether the bytes are the same. A refusal is printed by its number and its sentence.
  */
 #include <inttypes.h>
 #include <stdio.h>
@@ -26,11 +26,18 @@ static void print_section(uint64_t length, uint32_t number) {
     printf("\n");
 }
 
+static void print_refusal(const char *what, uint32_t number) {
+    uint8_t sentence[VPS_MOST_SENTENCE_BYTES];
+    uint64_t length;
+    vps_sentence(number, sentence, sizeof sentence, &length);
+    printf("%s %" PRIu32 ": %.*s\n", what, number, (int)length, (const char *)sentence);
+}
+
 static void round_trip(size_t unit_length) {
     uint64_t length, bits_used, written;
     uint32_t answer = vps_parse(unit, unit_length, work, sizeof work, record, VPS_MOST_RECORD_NUMBERS, &length, &bits_used);
     if (answer != VPS_SUCCESS) {
-        printf("refused %" PRIu32 "\n", answer);
+        print_refusal("refused", answer);
         return;
     }
     printf("ok %" PRIu64 ", bits used %" PRIu64 "\n", length, bits_used);
@@ -39,7 +46,7 @@ static void round_trip(size_t unit_length) {
     }
     answer = vps_write(record, length, output, sizeof output, &written);
     if (answer != VPS_SUCCESS) {
-        printf("not written, refused %" PRIu32 "\n", answer);
+        print_refusal("not written, refused", answer);
         return;
     }
     int same = written == unit_length && memcmp(output, unit, unit_length) == 0;

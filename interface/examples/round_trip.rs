@@ -1,5 +1,5 @@
 //! Reads each unit named on the command line, a file each, prints its record, a line a section, writes the record back, and says
-//! whether the bytes are the same. A refusal is printed by its number.
+//! whether the bytes are the same. A refusal is printed by its number and its sentence.
 use std::error::Error;
 use std::{env, fs};
 use teglyovash::{parse, section, write, Refusal, Section, MOST_RBSP_BYTES, MOST_RECORD_NUMBERS, MOST_UNIT_BYTES};
@@ -30,7 +30,7 @@ fn main() -> Result<(), Box<dyn Error>> {
         let unit = fs::read(&name)?;
         println!("{name}");
         if let Err(refusal) = round_trip(&unit) {
-            println!("refused {}", refusal.number());
+            println!("refused {}: {refusal}", refusal.number());
         }
     }
     Ok(())

@@ -1,7 +1,9 @@
 // The functions of the static archive, called as C calls them. Each call gives back the number that it returns;
 // what it stores is in the buffers and numbers that the caller lends.
 
-use crate::declared::{vps_ebsp_to_rbsp, vps_parse, vps_rbsp_to_ebsp, vps_section, vps_write};
+use crate::declared::{
+    vps_ebsp_to_rbsp, vps_parse, vps_rbsp_to_ebsp, vps_section, vps_sentence, vps_sentence_number, vps_write,
+};
 
 // In each call the pointers and lengths are those of slices and numbers that live through it.
 
@@ -25,4 +27,12 @@ pub fn ebsp_to_rbsp(source: &[u8], output: &mut [u8], length: &mut u64) -> u32 {
 
 pub fn rbsp_to_ebsp(source: &[u8], output: &mut [u8], length: &mut u64) -> u32 {
     unsafe { vps_rbsp_to_ebsp(source.as_ptr(), source.len(), output.as_mut_ptr(), output.len(), length) }
+}
+
+pub fn sentence(number: u32, output: &mut [u8], length: &mut u64) -> u32 {
+    unsafe { vps_sentence(number, output.as_mut_ptr(), output.len(), length) }
+}
+
+pub fn sentence_number(sentence: &[u8]) -> u32 {
+    unsafe { vps_sentence_number(sentence.as_ptr(), sentence.len()) }
 }

@@ -7,5 +7,6 @@ mod declared;
 pub mod reading;
 pub mod report;
 pub mod sections;
+pub mod sentences;
 pub mod stuffing;
 pub mod writing;

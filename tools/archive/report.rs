@@ -1,6 +1,6 @@
 // What was compared: counts by call and answer, and the differences.
 use judge::structures::{Mode, MODES, SHAPES};
-use std::collections::BTreeMap;
+use std::collections::{BTreeMap, BTreeSet};
 
 // What a call is counted by: a success, of a mode where there is one, or the refusal's number.
 #[derive(Clone, Copy, PartialEq, Eq, PartialOrd, Ord)]
@@ -61,6 +61,12 @@ impl Report {
         self.differences
     }
 
+    // The numbers of the refusals that were met.
+    pub fn refusals(&self) -> BTreeSet<u32> {
+        let refused = |answer: &Answer| if let Answer::Refused(number) = answer { Some(*number) } else { None };
+        self.answers.keys().filter_map(|(_, answer)| refused(answer)).collect()
+    }
+
     // The counts, what has too few, and whether the run is good.
     pub fn finish(&self) -> bool {
         println!("\n| Input | Made as | Count |\n|---|---|---|");
@@ -101,7 +107,7 @@ fn expected() -> Vec<(&'static str, Answer)> {
     }
     all.extend((1..=30).map(|number| ("vps_parse", Answer::Refused(number))));
     all.extend([31, 32].map(|number| ("vps_write", Answer::Refused(number))));
-    for call in ["vps_ebsp_to_rbsp", "vps_rbsp_to_ebsp"] {
+    for call in ["vps_ebsp_to_rbsp", "vps_rbsp_to_ebsp", "vps_sentence"] {
         all.extend([(call, Answer::Success), (call, Answer::Refused(32))]);
     }
     all.extend(

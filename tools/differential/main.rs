@@ -1,10 +1,12 @@
 // The static archive against the Rust, over many units, records and byte strings: every number that a call returns or
-// stores and every lent buffer afterwards. Ends with 1 if anything differs or if an answer was met too seldom.
+// stores and every lent buffer afterwards; and the sentences of the refusals that were met. Ends with 1 if anything differs
+// or if an answer was met too seldom.
 mod inputs;
 
 use archive::reading::{Judged, Reader};
 use archive::report::Report;
 use archive::sections::Sections;
+use archive::sentences;
 use archive::stuffing::Stuffing;
 use archive::writing::Writer;
 use bitstream::h266::parse_vps;
@@ -34,6 +36,7 @@ fn main() -> ExitCode {
     run.units(units);
     run.lists(units / 100);
     run.stuffing.compare_all(units / 20, &mut run.report);
+    sentences::compare_all(&mut run.report);
     let good = run.report.finish();
     println!("seed {seed}, units {units}, seconds {}", began.elapsed().as_secs());
     if good {

@@ -2,6 +2,7 @@
 // that was painted beforehand, and afterwards the lowest changed word is looked for.
 use archive::calls;
 use archive::cases::{cases, growth};
+use archive::sentences::MOST_SENTENCE;
 use bitstream::h266::{parse_vps, write_vps_nal};
 use judge::random::Random;
 use judge::record::{read, Reading};
@@ -14,6 +15,9 @@ const WORDS: usize = 1 << 17;
 
 // So many units of the oracle's streams, besides those that are timed.
 const UNITS: usize = 20_000;
+
+// So many numbers, from 0 on: those of the refusals, and others.
+const NUMBERS: u32 = 256;
 
 struct Stack {
     words: Vec<u64>,
@@ -127,6 +131,18 @@ impl Depths {
             });
         }
     }
+
+    // The sentence of a number, and back.
+    fn sentence(&mut self, number: u32) {
+        let (mut output, mut length) = ([0; MOST_SENTENCE], 0);
+        self.call("vps_sentence", || {
+            black_box(calls::sentence(number, &mut output, &mut length));
+        });
+        let sentence = &output[..length as usize];
+        self.call("vps_sentence_number", || {
+            black_box(calls::sentence_number(sentence));
+        });
+    }
 }
 
 fn main() {
@@ -139,6 +155,7 @@ fn main() {
         let mut units = Units::new(random.number(), longest);
         (0..UNITS).for_each(|_| depths.unit(&units.next().bytes));
     }
+    (0..NUMBERS).for_each(|number| depths.sentence(number));
     println!("| Call | Deepest, bytes | Calls |\n|---|---|---|");
     depths.found.sort();
     depths.found.iter().for_each(|(name, depth, calls)| println!("| {name} | {depth} | {calls} |"));

@@ -52,9 +52,9 @@ module _ {x : Reader.Parsed} {r : Parsed} {work lent : List ℕ} (G : Gives x r 
   parses-refused e = parses-as (ap parsedAnswer e) refl refl refl
 
 -- ── Answers with one number ───────────────────────────────────────────
-abbrev pub numberOf : Answer ℕ → ℕ
-numberOf (success n) = 0
-numberOf (refusal k) = k
+abbrev pub answerNumber : Answer ℕ → ℕ
+answerNumber (success n) = 0
+answerNumber (refusal k) = k
 
 -- what success stores; a refusal leaves what was there before
 abbrev pub storedAfter : Answer ℕ → (before : ℕ) → ℕ
@@ -62,11 +62,11 @@ storedAfter (success n) before = n
 storedAfter (refusal k) before = before
 
 pub record Tells (x : Answer ℕ) (before k after : ℕ) : Type 0 where
-  pub numbered : k ≡ numberOf x
+  pub numbered : k ≡ answerNumber x
   pub stored : after ≡ storedAfter x before
 
 pub tells-success : {x : Answer ℕ} {before n : ℕ} → success n ≡ x → Tells x before 0 n
-tells-success {before = before} e = record { numbered = ap numberOf e; stored = ap (λ (y : Answer ℕ). storedAfter y before) e }
+tells-success {before = before} e = record { numbered = ap answerNumber e; stored = ap (λ (y : Answer ℕ). storedAfter y before) e }
 
 pub tells-refusal : {x : Answer ℕ} {before k : ℕ} → refusal k ≡ x → Tells x before k before
-tells-refusal {before = before} e = record { numbered = ap numberOf e; stored = ap (λ (y : Answer ℕ). storedAfter y before) e }
+tells-refusal {before = before} e = record { numbered = ap answerNumber e; stored = ap (λ (y : Answer ℕ). storedAfter y before) e }

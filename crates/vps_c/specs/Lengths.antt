@@ -1,4 +1,4 @@
--- Lengths of buffers that are enough for every unit and every record, as callers in other languages name them. For the work buffer it is 65,535 bytes, by refusal 3.
+-- Lengths of buffers that are enough for every unit, every record and every sentence, as callers in other languages name them. For the work buffer it is 65,535 bytes, by refusal 3.
 use Prim.Native.Nat.{ℕ, _≤_}
 use mathlib.Core.Path.{_≡_, subst}
 use mathlib.Core.List.{List}
@@ -7,6 +7,8 @@ use lib.ListN.{length}
 use Rattle.refusals.specs.Answer.{Answer}
 use Rattle.refusals.specs.Answer.Answer.{success, refusal}
 use Rattle.stuffing.specs.Laws.{stuff-length}
+use Rattle.sentences.specs.Sentences.{sentenceOf}
+use Rattle.sentences.specs.Laws.{sentence-most}
 use Rattle.vps_definition.specs.Rules.{today}
 use Rattle.vps_definition.specs.Reading.{readUnit}
 use Rattle.vps_definition.specs.Reading.Reading.{accepts}
@@ -28,3 +30,6 @@ record-short r = of-record today Short tt (λ rbsp l. omega (arith, stuff-length
 
 pub unit-enough : (r u : List ℕ) → writeRecord r ≡ success u → length u ≤ 98304
 unit-enough r u e = subst Short e (record-short r)
+
+pub sentence-enough : (n : ℕ) → length (sentenceOf n) ≤ 47
+sentence-enough = sentence-most

@@ -1,15 +1,17 @@
-// Reading, writing, section lookup and byte stuffing for C and other languages, by numbers and slices alone: each function gives
-// 0, or a refusal's number, and stores what else it has to say where a reference points.
+// Reading, writing, section lookup, byte stuffing and the sentences of refusals for C and other languages, by numbers and slices
+// alone: each function but the last gives 0, or a refusal's number, and stores what else it has to say where a reference points.
 ghost use mathlib.Core.Path.{_≡_};
 ghost use Prim.Native.Nat.{_+_};
 ghost use Rattle.refusals.specs.Lent.{lent, outputAfter};
 ghost use Rattle.stuffing.specs.Stuffing.{unstuff, stuff};
+ghost use Rattle.sentences.specs.Sentences.{sentenceOf, numberOf};
 ghost use Rattle.vps_definition.specs.Writing.{writeRecord};
 ghost use Rattle.vps_definition.specs.Lookup.{sectionStart, sectionEnd};
 ghost use Rattle.vps_reader.specs.Parse.{parseUnit};
 ghost use Rattle.vps_writer.specs.Write.{writeOf, outputOf};
 ghost use Rattle.vps_c.specs.Calls.{Parses, Tells};
 use refusals::RECORD_TOO_SHORT;
+use sentences::Worded;
 use stuffing::Stuffed;
 use vps_reader::Parsed;
 use vps_writer::Written;
@@ -97,4 +99,28 @@ pub extern "C" fn vps_rbsp_to_ebsp(source: &[u8], output: &mut [u8], length: &mu
         }
         Stuffed::Refused(number) => number,
     }
+}
+
+// The sentence of a refusal, into a lent output; the empty one of every number that is no refusal's. Success stores its length; a
+// refusal stores nothing.
+#[no_mangle]
+pub extern "C" fn vps_sentence(number: u32, output: &mut [u8], length: &mut u64) -> u32
+    ensures { λ r. ⌜ Tells (lent (sentenceOf number) (now (output .entry))) (now (length .entry)) r (now (length .exit)) ⌝ }
+    ensures { λ _. ⌜ now (output .exit) ≡ outputAfter (sentenceOf number) (now (output .entry)) ⌝ }
+{
+    match sentences::sentence(number, output) {
+        Worded::Done(bytes) => {
+            *length = bytes as u64;
+            0
+        }
+        Worded::Refused(refusal) => refusal,
+    }
+}
+
+// The number of the refusal whose sentence this is, or 0. Nothing is refused.
+#[no_mangle]
+pub extern "C" fn vps_sentence_number(sentence: &[u8]) -> u32
+    ensures { λ r. ⌜ r ≡ numberOf (now (sentence .entry)) ⌝ }
+{
+    sentences::sentence_number(sentence)
 }

@@ -70,3 +70,16 @@ pub(crate) fn rbsp_to_ebsp(source: &[u8], output: &mut [u8]) -> Said {
     };
     Said { number, stored }
 }
+
+pub(crate) fn sentence(number: u32, output: &mut [u8]) -> Said {
+    let mut stored = 0;
+    // SAFETY: as above.
+    let number = unsafe { declared::vps_sentence(number, output.as_mut_ptr(), output.len(), &mut stored) };
+    Said { number, stored }
+}
+
+/// The number of the refusal whose sentence these bytes are, or 0.
+pub(crate) fn sentence_number(sentence: &[u8]) -> u32 {
+    // SAFETY: as above.
+    unsafe { declared::vps_sentence_number(sentence.as_ptr(), sentence.len()) }
+}

@@ -134,6 +134,38 @@ pub fn rbsp_to_ebsp(source: &[u8], output: &mut [u8]) -> Result<usize, Refusal> 
     told(archive::rbsp_to_ebsp(source, output))
 }
 
+/// Stores the sentence of a refusal, given by its number, and gives the sentence's length in bytes.
+///
+/// A sentence is three words with a blank between them: place, field and fault. For 0 and every number that is not a refusal's it is
+/// the empty one. On success it stands at the beginning of `output`; what is behind it is as before. Exactly as many bytes as it has
+/// are enough, and [`crate::MOST_SENTENCE_BYTES`] always. Refusal 32 alone can come out, and leaves `output` as it was.
+/// [`Refusal::from_sentence`] is the way back.
+///
+/// ```
+/// use teglyovash::{sentence, Refusal};
+///
+/// let mut output = [0xff; 23];
+/// assert_eq!(sentence(27, &mut output), Ok(20));
+/// assert_eq!(output[..20], *b"end stop-bit missing");
+/// assert_eq!(output[20..], [0xff; 3]);
+///
+/// let mut exact = [0xff; 20];
+/// assert_eq!(sentence(27, &mut exact), Ok(20));
+/// assert_eq!(exact, *b"end stop-bit missing");
+///
+/// let mut short = [0xff; 19];
+/// assert_eq!(sentence(27, &mut short), Err(Refusal::OutputTooShort));
+/// assert_eq!(short, [0xff; 19]);
+///
+/// // 0 and the greatest number are not refusals'
+/// assert_eq!(sentence(0, &mut short), Ok(0));
+/// assert_eq!(sentence(u32::MAX, &mut []), Ok(0));
+/// assert_eq!(short, [0xff; 19]);
+/// ```
+pub fn sentence(number: u32, output: &mut [u8]) -> Result<usize, Refusal> {
+    told(archive::sentence(number, output))
+}
+
 fn told(said: Said) -> Result<usize, Refusal> {
     match said.number {
         0 => Ok(position(said.stored)),

@@ -40,4 +40,6 @@ unsafe extern "C" {
         output_length: usize,
         length: *mut u64,
     ) -> u32;
+    pub(crate) fn vps_sentence(number: u32, output: *mut u8, output_length: usize, length: *mut u64) -> u32;
+    pub(crate) fn vps_sentence_number(sentence: *const u8, sentence_length: usize) -> u32;
 }

@@ -1,4 +1,5 @@
-//! H.266 video parameter sets (VPS): a unit read into a record, a record written as a unit, a record's sections, byte stuffing.
+//! H.266 video parameter sets (VPS): a unit read into a record, a record written as a unit, a record's sections, byte stuffing, and
+//! refusals as sentences that can be read out.
 //!
 //! The work is done by proved code in the archive `libvps_c.a`: for all bytes, numbers and lengths each function does what is said
 //! here. This crate adds types, and no checks of its own. All buffers are the caller's, and nothing is allocated.
@@ -27,7 +28,7 @@ mod declared;
 mod refusal;
 mod section;
 
-pub use calls::{ebsp_to_rbsp, parse, rbsp_to_ebsp, section, write, Parsed};
+pub use calls::{ebsp_to_rbsp, parse, rbsp_to_ebsp, section, sentence, write, Parsed};
 pub use refusal::Refusal;
 pub use section::Section;
 
@@ -39,3 +40,6 @@ pub const MOST_RECORD_NUMBERS: usize = 535_855;
 
 /// The longest unit that is written, in bytes: an output of this length is long enough for every record.
 pub const MOST_UNIT_BYTES: usize = 98_304;
+
+/// Three words of at most 15 bytes each and two blanks: an output of this length is long enough for every sentence.
+pub const MOST_SENTENCE_BYTES: usize = 47;

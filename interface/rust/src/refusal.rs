@@ -1,18 +1,21 @@
 //! The refusals.
 #![forbid(unsafe_code)]
 
+use crate::calls::sentence;
+use crate::{archive, MOST_SENTENCE_BYTES};
 use std::error::Error;
-use std::fmt;
+use std::{fmt, str};
 
-/// Why a unit was not read, a record not written, or stuffing not added or removed. Its text is the place and the condition.
-/// T is the number of output layer sets, and M that of those with more than one layer.
+/// Why a unit was not read, a record not written, stuffing not added or removed, or a sentence not stored. Its text is its sentence,
+/// three words for place, field and fault, and nothing else. Below are place and condition of each; T is the number of output layer
+/// sets, and M that of those with more than one layer.
 ///
 /// ```
 /// use teglyovash::Refusal;
 ///
 /// assert_eq!(Refusal::StopBitMissing.number(), 27);
-/// assert_eq!(Refusal::StopBitMissing.to_string(), "end: no bit left for the stop bit");
-/// assert_eq!(Refusal::RecordTooShort { needed: 38 }.to_string(), "record: record buffer too short; 38 numbers needed");
+/// assert_eq!(Refusal::StopBitMissing.to_string(), "end stop-bit missing");
+/// assert_eq!(Refusal::RecordTooShort { needed: 38 }.to_string(), "record buffer too-short");
 /// ```
 #[derive(Clone, Copy, Debug, PartialEq, Eq, Hash)]
 pub enum Refusal {
@@ -81,7 +84,7 @@ pub enum Refusal {
     },
     /// 31, writer: not well formed.
     NotWellFormed,
-    /// 32, writer, adding and removing stuffing: output too short.
+    /// 32, writer, adding and removing stuffing, sentences: output too short.
     OutputTooShort,
 }
 
@@ -163,52 +166,30 @@ impl Refusal {
         }
     }
 
-    /// The place and the condition.
-    fn words(self) -> &'static str {
-        match self {
-            Refusal::UnitTooShort => "header: under 2 bytes",
-            Refusal::NotAVps => "header: type (second byte, bits 3 to 7, bit 0 the lowest) not 14",
-            Refusal::RbspTooLong => "lengths: RBSP over 65,535 bytes",
-            Refusal::WorkTooShort => "lengths: work buffer shorter than RBSP",
-            Refusal::SublayersReserved => "layers: max_sublayers_minus1 is 7",
-            Refusal::LayerIdsNotRising => "layers: ids not strictly rising",
-            Refusal::NoDirectReference => "layers: dependent layer without direct reference",
-            Refusal::ModeReserved => "sets: mode 3",
-            Refusal::NoOutputLayer => "sets: row without output layer",
-            Refusal::PtlsOverSets => "sets: more PTLs than T",
-            Refusal::PtlMaxTid => "PTL: max tid over max_sublayers_minus1",
-            Refusal::PtlAlignment => "PTL: alignment bit 1 before the first PTL",
-            Refusal::PtlIndex => "PTL: index not below PTL count",
-            Refusal::CodeTooLong => "each ue: 32 zeros",
-            Refusal::DpbSlots => "DPB: slots over M",
-            Refusal::DpbMaxTid => "DPB: max tid over max_sublayers_minus1",
-            Refusal::DpbBuffering => "DPB: buffering over 15",
-            Refusal::DpbReorder => "DPB: reorder over buffering",
-            Refusal::DpbDepth => "DPB: depth over 8",
-            Refusal::DpbIndex => "DPB: index not below slots",
-            Refusal::TimingZero => "timing: units or scale 0, after both HRD flags",
-            Refusal::ScheduleCount => "timing: schedule count field over 31",
-            Refusal::TimingEntries => "timing: entries over M",
-            Refusal::TimingMaxTid => "timing: max tid over max_sublayers_minus1",
-            Refusal::ElementalDuration => "timing: elemental duration over 2,047",
-            Refusal::TimingIndex => "timing: index not below entries",
-            Refusal::StopBitMissing => "end: no bit left for the stop bit",
-            Refusal::StopBitZero => "end: stop bit 0",
-            Refusal::AlignmentBitOne => "end: a 1 between stop bit and boundary",
-            Refusal::RecordTooShort { .. } => "record: record buffer too short",
-            Refusal::NotWellFormed => "writer: not well formed",
-            Refusal::OutputTooShort => "writer, adding and removing stuffing: output too short",
+    /// The refusal whose sentence these bytes are, exactly as [`crate::sentence`] stores it, and `None` for all other bytes.
+    ///
+    /// The sentence of 30 does not say what length the record needs, so its `needed` is 0 here.
+    ///
+    /// ```
+    /// use teglyovash::Refusal;
+    ///
+    /// assert_eq!(Refusal::from_sentence(b"layers ids not-rising"), Some(Refusal::LayerIdsNotRising));
+    /// assert_eq!(Refusal::from_sentence(b"record buffer too-short"), Some(Refusal::RecordTooShort { needed: 0 }));
+    /// assert_eq!(Refusal::from_sentence(b"layers ids"), None);
+    /// ```
+    pub fn from_sentence(sentence: &[u8]) -> Option<Refusal> {
+        match archive::sentence_number(sentence) {
+            0 => None,
+            number => Some(Refusal::of(number, 0)),
         }
     }
 }
 
 impl fmt::Display for Refusal {
     fn fmt(&self, f: &mut fmt::Formatter<'_>) -> fmt::Result {
-        f.write_str(self.words())?;
-        match self {
-            Refusal::RecordTooShort { needed } => write!(f, "; {needed} numbers needed"),
-            _ => Ok(()),
-        }
+        let mut output = [0; MOST_SENTENCE_BYTES];
+        let length = sentence(self.number(), &mut output).expect("every sentence has room");
+        f.write_str(str::from_utf8(&output[..length]).expect("a sentence is ASCII"))
     }
 }
 
@@ -219,10 +200,56 @@ mod tests {
     use super::Refusal;
     use std::collections::HashSet;
 
+    /// Every refusal, in order of its number.
+    fn all() -> Vec<Refusal> {
+        (1..=32).map(|number| Refusal::of(number, 0)).collect()
+    }
+
     #[test]
-    fn each_number_has_its_refusal_and_its_words() {
-        let all: Vec<Refusal> = (1..=32).map(|n| Refusal::of(n, 5)).collect();
-        assert!(all.iter().zip(1..).all(|(refusal, n)| refusal.number() == n));
-        assert_eq!(all.iter().map(Refusal::to_string).collect::<HashSet<_>>().len(), 32);
+    fn each_number_has_its_refusal() {
+        assert!(all().iter().zip(1..).all(|(refusal, number)| refusal.number() == number));
+    }
+
+    #[test]
+    fn each_refusal_has_a_sentence_of_its_own() {
+        for refusal in all() {
+            let sentence = refusal.to_string();
+            let words: Vec<&str> = sentence.split(' ').collect();
+            assert_eq!(words.len(), 3, "{sentence}");
+            assert!(words.iter().all(|word| !word.is_empty()), "{sentence}");
+        }
+        let sentences: HashSet<String> = all().iter().map(Refusal::to_string).collect();
+        assert_eq!(sentences.len(), all().len());
+    }
+
+    #[test]
+    fn some_sentences() {
+        assert_eq!(Refusal::LayerIdsNotRising.to_string(), "layers ids not-rising");
+        assert_eq!(Refusal::ScheduleCount.to_string(), "timing schedule-count over-31");
+        assert_eq!(Refusal::RecordTooShort { needed: 38 }.to_string(), "record buffer too-short");
+    }
+
+    #[test]
+    fn a_sentence_gives_its_refusal_back() {
+        for refusal in all() {
+            assert_eq!(Refusal::from_sentence(refusal.to_string().as_bytes()), Some(refusal));
+        }
+    }
+
+    #[test]
+    fn other_bytes_give_none() {
+        assert_eq!(Refusal::from_sentence(b""), None);
+        for refusal in all() {
+            let sentence = refusal.to_string().into_bytes();
+            for end in 0..sentence.len() {
+                assert_eq!(Refusal::from_sentence(&sentence[..end]), None, "{refusal}, {end} bytes");
+                // a letter in the other case, or a byte that no sentence has
+                let mut changed = sentence.clone();
+                changed[end] ^= 0x20;
+                assert_eq!(Refusal::from_sentence(&changed), None, "{refusal}, byte {end} changed");
+            }
+            let longer = [&sentence[..], b" "].concat();
+            assert_eq!(Refusal::from_sentence(&longer), None, "{refusal} and a blank");
+        }
     }
 }
