@@ -1,0 +1,55 @@
+-- `cell` is safe and ends.
+use Prim.Native.Nat.{_≤_, _-_}
+use lib.ListN.{length}
+use borrow.Author.Needs.{needs}
+use Rattle.sentences_replay.proofs.page.cell.Statement.{statement}
+use Rattle.sentences_replay.proofs.page.cell.Tie as tie
+
+abbrev Inv-loop : tie.InvT-loop
+Inv-loop bytes end₀ end = end ≤ length bytes
+
+abbrev μ-loop : tie.MeasureT-loop
+μ-loop bytes end₀ end = length bytes - end
+
+loop-holds : tie.Need-loop-holds Inv-loop μ-loop
+loop-holds c = search needs
+
+behind-requires : tie.Need-behind-requires Inv-loop μ-loop
+behind-requires c κs = search needs
+
+byte-at-requires : tie.Need-byte-at-requires Inv-loop μ-loop
+byte-at-requires c κs = search needs
+
+first-requires : tie.Need-first-requires Inv-loop μ-loop
+first-requires c κs = search needs
+
+returns : tie.Need-returns Inv-loop μ-loop
+returns c = search needs
+
+add-end : tie.Need-add-end Inv-loop μ-loop
+add-end c = search needs
+
+loop-less : tie.Need-loop-less Inv-loop μ-loop
+loop-less c = search needs
+
+loop-again : tie.Need-loop-again Inv-loop μ-loop
+loop-again c = search needs
+
+returns-2 : tie.Need-returns-2 Inv-loop μ-loop
+returns-2 c = search needs
+
+pub cell-spec : {M : Type 1} → statement M
+cell-spec =
+    tie.close
+    (tie.spec
+    Inv-loop
+    μ-loop
+    loop-holds
+    behind-requires
+    byte-at-requires
+    first-requires
+    returns
+    add-end
+    loop-less
+    loop-again
+    returns-2)

@@ -1,0 +1,44 @@
+-- `put_refused` meets its contract.
+use Rattle.texts.specs.Text.{puts-then}
+use Rattle.vps_why.specs.Why.{refusedLine}
+use borrow.Author.Needs.{needs}
+use Rattle.vps_why.proofs.put_refused.Statement.{statement}
+use Rattle.vps_why.proofs.put_refused.Tie as tie
+
+put-decimal-requires : tie.Need-put-decimal-requires
+put-decimal-requires c κs = search needs
+
+slice-aggregate-put : tie.Need-slice-aggregate-put
+slice-aggregate-put c = search needs
+
+put-requires : tie.Need-put-requires
+put-requires c κs = search needs
+
+put-sentence-requires : tie.Need-put-sentence-requires
+put-sentence-requires c κs = search needs
+
+slice-aggregate-put-2 : tie.Need-slice-aggregate-put-2
+slice-aggregate-put-2 c = search needs
+
+put-requires-2 : tie.Need-put-requires-2
+put-requires-2 c κs = search needs
+
+same-length : tie.Need-same-length
+same-length c = search needs
+
+returns : tie.Need-returns
+unfolding refusedLine
+returns c = puts-then (puts-then (puts-then (c .before .before .before .before .before .before .before .before .before .before .before .before .before .before .before .before .put-decimal .ensures) (c .before .before .before .before .before .before .before .before .before .before .before .put .ensures)) (c .before .before .before .before .before .before .before .put-sentence .ensures)) (c .before .before .put2 .ensures)
+
+pub put-refused-spec : {M : Type 1} → statement M
+put-refused-spec =
+    tie.close
+    (tie.spec
+    put-decimal-requires
+    slice-aggregate-put
+    put-requires
+    put-sentence-requires
+    slice-aggregate-put-2
+    put-requires-2
+    same-length
+    returns)

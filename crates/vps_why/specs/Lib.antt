@@ -1,0 +1,3 @@
+pub mod Why
+pub mod Long
+pub mod Cases
