@@ -12,12 +12,12 @@ use lib.ListN.{length, getD, length-map}
 use Rattle.lists.specs.Same.{same, same-true}
 use Rattle.lists.specs.Table.{and-both, everyBelow, every-below}
 use Rattle.texts.specs.Bytes.{bytes}
-use Rattle.sentences.specs.Sentences.{Row, table, lastNumber, wordsOfRow, wordsOf, wordOf, blank, joined, sentenceOf, numberFrom, numberOf}
+use Rattle.sentences.specs.Sentences.{Row, table, lastNumber, wordsOfRow, wordsOf, wordOf, blank, joined, sentenceOf, isSentence, numberFrom, numberOf}
 use Rattle.sentences.specs.Words.{letter, allLetters, isWord, threeWords, Three, three-words}
 
 -- every definition that the table is computed by
 unfoldable pub opened : Unit {0}
-unfolding same bytes table lastNumber wordsOfRow wordsOf joined sentenceOf numberFrom numberOf letter allLetters isWord threeWords
+unfolding same bytes table lastNumber wordsOfRow wordsOf joined sentenceOf isSentence numberFrom numberOf letter allLetters isWord threeWords
 opened = tt
 
 -- a number of the table
@@ -97,6 +97,10 @@ sentence-is n h =
     in-order p f x = simp append-assoc
 
 -- ── Which bytes give which number ─────────────────────────────────────
+is-sentence : (r : Row) (s : List ℕ) → isSentence r s ≡ true → joined (wordsOfRow r) ≡ s
+unfolding isSentence
+is-sentence r s e = same-true (joined (wordsOfRow r)) s e
+
 record Found (m : ℕ) (rows : List Row) (s : List ℕ) : Type 0 where
   at : ℕ
   inside : at < length rows
@@ -106,10 +110,10 @@ record Found (m : ℕ) (rows : List Row) (s : List ℕ) : Type 0 where
 found-or-none : (m : ℕ) (rows : List Row) (s : List ℕ) → (numberFrom m rows s ≡ 0) ⊎ Found m rows s
 unfolding numberFrom
 found-or-none m [] s = inl refl
-found-or-none m (r ∷ rows) s = go (same (joined (wordsOfRow r)) s) refl (found-or-none (suc m) rows s)
+found-or-none m (r ∷ rows) s = go (isSentence r s) refl (found-or-none (suc m) rows s)
   where
-    go : (b : Bool) → same (joined (wordsOfRow r)) s ≡ b → (numberFrom (suc m) rows s ≡ 0) ⊎ Found (suc m) rows s → (numberFrom m (r ∷ rows) s ≡ 0) ⊎ Found m (r ∷ rows) s
-    go true e later = inr (record { at = 0; inside = omega arith; is = rw (e, numberFrom) (sym (add-zero m)); says = same-true (joined (wordsOfRow r)) s e })
+    go : (b : Bool) → isSentence r s ≡ b → (numberFrom (suc m) rows s ≡ 0) ⊎ Found (suc m) rows s → (numberFrom m (r ∷ rows) s ≡ 0) ⊎ Found m (r ∷ rows) s
+    go true e later = inr (record { at = 0; inside = omega arith; is = rw (e, numberFrom) (sym (add-zero m)); says = is-sentence r s e })
     go false e (inl none) = inl (rw (e, numberFrom) none)
     go false e (inr F) = inr (record { at = suc (F .at); inside = omega (arith, F .inside); is = rw (e, numberFrom) (omega (arith, F .is)); says = F .says })
 

@@ -2,7 +2,7 @@
 use Prim.Native.Nat.{ℕ, suc}
 use Prim.Native.String.{String}
 use mathlib.Core.List.{List, [], _∷_, _++_, map}
-use mathlib.Core.Bool.{true, false}
+use mathlib.Core.Bool.{Bool, true, false}
 use lib.ListN.{length, getD}
 use Rattle.lists.specs.Same.{same}
 use Rattle.texts.specs.Bytes.{bytes}
@@ -78,10 +78,14 @@ unfoldable pub sentenceOf : ℕ → List ℕ
 sentenceOf n = joined (wordsOf n)
 
 -- ── And back ──────────────────────────────────────────────────────────
+-- whether s is the sentence of a row
+unfoldable pub isSentence : Row → (s : List ℕ) → Bool
+isSentence r s = same (joined (wordsOfRow r)) s
+
 -- the number of the first of some rows, counted from n, whose sentence is s; 0 if none is
 unfoldable pub numberFrom : (n : ℕ) → List Row → List ℕ → ℕ
 numberFrom n [] s = 0
-numberFrom n (r ∷ rows) s = elim (same (joined (wordsOfRow r)) s) [ true ↦ n | false ↦ numberFrom (suc n) rows s ]
+numberFrom n (r ∷ rows) s = elim (isSentence r s) [ true ↦ n | false ↦ numberFrom (suc n) rows s ]
 
 unfoldable pub numberOf : List ℕ → ℕ
 numberOf = numberFrom 1 table

@@ -7,6 +7,7 @@ ghost use Rattle.refusals.specs.Lent.{lent, outputAfter};
 ghost use Rattle.texts.specs.Text.{Puts};
 ghost use Rattle.sentences.specs.Sentences.{wordOf, sentenceOf, numberOf};
 ghost use Rattle.sentences.specs.Words.{upToBlank};
+ghost use Rattle.sentences.specs.Vocabulary.{allWords, wordAt, wordNumber};
 ghost use Rattle.sentences.specs.Laws.{InTable};
 ghost use Rattle.sentences.specs.Answers.{wordedAnswer};
 
@@ -81,15 +82,35 @@ fn word_at(bytes: &[u8], from: usize) -> &[u8]
     &bytes[from..end]
 }
 
-// A word of a refusal: 0 the place, 1 the field, 2 the fault.
-fn put_word(text: &mut [u8], at: usize, number: u32, part: usize) -> usize
+// Which word the place (part 0), the field (1) or the fault (2) of a refusal is.
+fn word_number(number: u32, part: usize) -> u8
+    requires { ⌜ InTable number ⌝ }
+    requires { ⌜ part < 3 ⌝ }
+    ensures { λ r. ⌜ r ≡ wordNumber number part ⌝ }
+{
+    let row = number as usize - 1;
+    ROWS[row][part]
+}
+
+// A word, by its number.
+fn put_word(text: &mut [u8], at: usize, word: u8) -> usize
+    requires { ⌜ word < length allWords ⌝ }
+    ensures { λ r. ⌜ Puts (wordAt word) at r (now (text .entry)) (now (text .exit)) ⌝ }
+{
+    put(
+        text,
+        at,
+        word_at(&words::WORDS, word as usize * words::WORD_BYTES),
+    )
+}
+
+// The place, the field or the fault of a refusal.
+fn put_part(text: &mut [u8], at: usize, number: u32, part: usize) -> usize
     requires { ⌜ InTable number ⌝ }
     requires { ⌜ part < 3 ⌝ }
     ensures { λ r. ⌜ Puts (wordOf number part) at r (now (text .entry)) (now (text .exit)) ⌝ }
 {
-    let row = number as usize - 1;
-    let word = ROWS[row][part] as usize;
-    put(text, at, word_at(&words::WORDS, word * words::WORD_BYTES))
+    put_word(text, at, word_number(number, part))
 }
 
 // A refusal's sentence, as much of it as there is room for; nothing for 0 and numbers past the table.
@@ -102,11 +123,11 @@ pub fn put_sentence(text: &mut [u8], at: usize, number: u32) -> usize
     if LAST_NUMBER < number {
         return at;
     }
-    let place = put_word(text, at, number, 0);
+    let place = put_part(text, at, number, 0);
     let field = put(text, place, b" ");
-    let field_end = put_word(text, field, number, 1);
+    let field_end = put_part(text, field, number, 1);
     let fault = put(text, field_end, b" ");
-    put_word(text, fault, number, 2)
+    put_part(text, fault, number, 2)
 }
 
 // A refusal's sentence into a lent output. 0 and numbers past the table have the empty one.

@@ -14,9 +14,9 @@ returns-2 : tie.Need-returns-2
 unfolding opened
 returns-2 c = puts-same (sym (nothing-past (c .before .before .before .args .number) (c .if2 .taken))) (puts-none _ _)
 
-put-word-requires : tie.Need-put-word-requires
+put-part-requires : tie.Need-put-part-requires
 unfolding opened
-put-word-requires c κs = (in-table (c .before .before .if1 .left) (c .before .if2 .left), omega arith)
+put-part-requires c κs = (in-table (c .before .before .if1 .left) (c .before .if2 .left), omega arith)
 
 slice-aggregate-put : tie.Need-slice-aggregate-put
 slice-aggregate-put c = search needs
@@ -24,9 +24,9 @@ slice-aggregate-put c = search needs
 put-requires : tie.Need-put-requires
 put-requires c κs = search needs
 
-put-word-requires-2 : tie.Need-put-word-requires-2
+put-part-requires-2 : tie.Need-put-part-requires-2
 unfolding opened
-put-word-requires-2 c κs = (in-table (c .before .before .before .before .before .before .before .before .before .before .before .if1 .left) (c .before .before .before .before .before .before .before .before .before .before .if2 .left), omega arith)
+put-part-requires-2 c κs = (in-table (c .before .before .before .before .before .before .before .before .before .before .before .if1 .left) (c .before .before .before .before .before .before .before .before .before .before .if2 .left), omega arith)
 
 slice-aggregate-put-2 : tie.Need-slice-aggregate-put-2
 slice-aggregate-put-2 c = search needs
@@ -34,9 +34,9 @@ slice-aggregate-put-2 c = search needs
 put-requires-2 : tie.Need-put-requires-2
 put-requires-2 c κs = search needs
 
-put-word-requires-3 : tie.Need-put-word-requires-3
+put-part-requires-3 : tie.Need-put-part-requires-3
 unfolding opened
-put-word-requires-3 c κs = (in-table (c .before .before .before .before .before .before .before .before .before .before .before .before .before .before .before .before .before .before .before .before .if1 .left) (c .before .before .before .before .before .before .before .before .before .before .before .before .before .before .before .before .before .before .before .if2 .left), omega arith)
+put-part-requires-3 c κs = (in-table (c .before .before .before .before .before .before .before .before .before .before .before .before .before .before .before .before .before .before .before .before .if1 .left) (c .before .before .before .before .before .before .before .before .before .before .before .before .before .before .before .before .before .before .before .if2 .left), omega arith)
 
 same-length : tie.Need-same-length
 same-length c = search needs
@@ -45,7 +45,7 @@ returns-3 : tie.Need-returns-3
 unfolding opened
 returns-3 c =
     puts-same (sentence-is (c .before .before .before .before .before .before .before .before .before .before .before .before .before .before .before .before .before .before .before .before .before .before .before .before .before .args .number) (in-table (c .before .before .before .before .before .before .before .before .before .before .before .before .before .before .before .before .before .before .before .before .before .before .before .if1 .left) (c .before .before .before .before .before .before .before .before .before .before .before .before .before .before .before .before .before .before .before .before .before .before .if2 .left)))
-    (puts-then (puts-then (puts-then (puts-then (c .before .before .before .before .before .before .before .before .before .before .before .before .before .before .before .before .before .before .before .before .put-word .ensures) (c .before .before .before .before .before .before .before .before .before .before .before .before .before .before .before .put .ensures)) (c .before .before .before .before .before .before .before .before .before .before .before .put-word2 .ensures)) (c .before .before .before .before .before .before .put2 .ensures)) (c .before .before .put-word3 .ensures))
+    (puts-then (puts-then (puts-then (puts-then (c .before .before .before .before .before .before .before .before .before .before .before .before .before .before .before .before .before .before .before .before .put-part .ensures) (c .before .before .before .before .before .before .before .before .before .before .before .before .before .before .before .put .ensures)) (c .before .before .before .before .before .before .before .before .before .before .before .put-part2 .ensures)) (c .before .before .before .before .before .before .put2 .ensures)) (c .before .before .put-part3 .ensures))
 
 pub put-sentence-spec : {M : Type 1} → statement M
 put-sentence-spec =
@@ -53,12 +53,12 @@ put-sentence-spec =
     (tie.spec
     returns
     returns-2
-    put-word-requires
+    put-part-requires
     slice-aggregate-put
     put-requires
-    put-word-requires-2
+    put-part-requires-2
     slice-aggregate-put-2
     put-requires-2
-    put-word-requires-3
+    put-part-requires-3
     same-length
     returns-3)
