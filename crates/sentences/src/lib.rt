@@ -123,8 +123,8 @@ pub fn put_sentence(text: &mut [u8], at: usize, number: u32) -> usize
     if LAST_NUMBER < number {
         return at;
     }
-    let place = put_part(text, at, number, 0);
-    let field = put(text, place, b" ");
+    let place_end = put_part(text, at, number, 0);
+    let field = put(text, place_end, b" ");
     let field_end = put_part(text, field, number, 1);
     let fault = put(text, field_end, b" ");
     put_part(text, fault, number, 2)

@@ -1,6 +1,6 @@
 -- What vps-why prints for a unit: `accepted`, or the refusal's number and its sentence.
 use Prim.Native.Nat.{ℕ, _/_, _≤_}
-use mathlib.Core.Path.{_≡_, refl, ap, _∙_}
+use mathlib.Core.Path.{_≡_, refl}
 use mathlib.Core.List.{List, [], _∷_, _++_}
 use mathlib.Core.Bool.{Bool, true, false, cond}
 use native.Mathlib.Omega.{arith}
@@ -12,14 +12,14 @@ use Rattle.refusals.specs.Number.{not-a-vps, rbsp-too-long, work-too-short}
 use Rattle.lists.specs.Stored.{overlaid}
 use Rattle.stuffing.specs.Stuffing.{unstuff}
 use Rattle.texts.specs.Bytes.{bytes}
-use Rattle.texts.specs.Text.{Puts, puts-same, puts-whole}
+use Rattle.texts.specs.Text.{Puts, puts-whole}
 use Rattle.text_numbers.specs.Decimal.{decimal, places-most}
 use Rattle.text_numbers.specs.Counted.{puts-counts}
 use Rattle.sentences.specs.Sentences.{sentenceOf}
 use Rattle.sentences.specs.Laws.{sentence-most}
 use Rattle.vps_definition.specs.Reading.{Reading, readRbsp, readUnit, most-rbsp-bytes, limitedBy, vps-nut, unitBy}
 use Rattle.vps_definition.specs.Reading.Reading.{accepts, refuses}
-use Rattle.vps_reader.specs.Parse.{Parse, Parsed, untouched, parseOf, parseRbsp, parsePayload, parseUnit}
+use Rattle.vps_reader.specs.Parse.{Parse, untouched, parseOf, parseRbsp, parsePayload, parseUnit}
 use Rattle.vps_reader.specs.Parse.Parse.{accepted, too-short, refused}
 
 abbrev pub acceptedLine : List ℕ
