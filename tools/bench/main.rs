@@ -1,21 +1,30 @@
 // Times the static archive beside the Rust: the same units, one driver, batches in turn, medians over many rounds.
 use archive::calls;
 use archive::cases::{cases, growth, Case};
+use archive::sentences::MOST_SENTENCE;
 use bitstream::h266::{parse_vps, write_vps_nal};
 use bitstream::nal::{ebsp_to_rbsp, rbsp_to_ebsp};
 use judge::record::record_of;
 use judge::show::unit_of;
 use std::hint::black_box;
+use std::process::ExitCode;
 
 // A batch takes about so many nanoseconds, and there are so many of each side.
 const BATCH: u64 = 1_000_000;
 const ROUNDS: usize = 201;
 
-fn main() {
+fn main() -> ExitCode {
     let words: Vec<String> = std::env::args().skip(1).collect();
-    if let [side, call, name, count] = &words[..] {
-        return repeat(side, call, name, count.parse().expect("a number"));
+    match &words[..] {
+        [] => beside_the_rust(),
+        [word] if word == "sentences" => return sentences(),
+        [side, call, name, count] => repeat(side, call, name, count.parse().expect("a number")),
+        _ => return ExitCode::from(2),
     }
+    ExitCode::SUCCESS
+}
+
+fn beside_the_rust() {
     println!("Nanoseconds of processor time a call, medians of {ROUNDS} rounds in which the two sides take turns. The ratio is the Rust's time");
     println!(
         "to ours: above 1, ours is faster. Ours works in the caller's buffers, which are used again and not cleared;"
@@ -40,6 +49,37 @@ fn main() {
     for case in growth() {
         growth_row(&case);
     }
+}
+
+// ── Sentences, which the Rust has not ───────────────────────────────────
+
+// Bytes that begin with a sentence, up to so many: none may take more than three times as long as the fewest.
+const HOSTILE: [usize; 5] = [24, 1 << 10, 1 << 16, 1 << 20, 1 << 24];
+
+fn sentences() -> ExitCode {
+    println!("| Bytes | ns | To the fewest |\n|---|---|---|");
+    let times = HOSTILE.map(number_time);
+    for (bytes, time) in HOSTILE.iter().zip(times) {
+        println!("| {bytes} | {time:.0} | {:.2} |", time / times[0]);
+    }
+    if times.iter().all(|time| *time <= 3.0 * times[0]) {
+        ExitCode::SUCCESS
+    } else {
+        ExitCode::FAILURE
+    }
+}
+
+// The time of vps_sentence_number for so many bytes of sentences one behind the other.
+fn number_time(bytes: usize) -> f64 {
+    let (mut output, mut length) = ([0; MOST_SENTENCE], 0);
+    calls::sentence(27, &mut output, &mut length);
+    let hostile: Vec<u8> = output[..length as usize].iter().copied().cycle().take(bytes).collect();
+    assert_eq!(calls::sentence_number(&hostile), 0, "no sentence");
+    let mut run = || {
+        black_box(calls::sentence_number(black_box(&hostile)));
+    };
+    let count = batch_size(&mut run);
+    median((0..ROUNDS).map(|_| batch(&mut run, count)).collect())
 }
 
 // ── One side alone, for a profiler ──────────────────────────────────────
