@@ -12,7 +12,7 @@ returns c = puts-same (sym (nothing-at-zero (c .before .before .args .number) (c
 
 returns-2 : tie.Need-returns-2
 unfolding opened
-returns-2 c = puts-same (sym (nothing-past (c .before .before .before .args .number) (c .if2 .taken))) (puts-none _ _)
+returns-2 c = puts-same (sym (nothing-past (c .before .before .before .args .number) (omega (arith, c .if2 .taken)))) (puts-none _ _)
 
 put-part-requires : tie.Need-put-part-requires
 unfolding opened

@@ -24,7 +24,7 @@ is-sentence-requires c κs = search needs
 
 returns : tie.Need-returns Inv-loop μ-loop
 unfolding opened
-returns c = below-found (c .before .before .before .loop .inv) (c .before .before .loop-test .taken) (c .before .is-sentence .ensures .0 (c .if1 .taken))
+returns c = below-found (c .before .before .before .loop .inv) (omega (arith, c .before .before .loop-test .taken)) (c .before .is-sentence .ensures .0 (c .if1 .taken))
 
 add-number : tie.Need-add-number Inv-loop μ-loop
 unfolding opened
@@ -36,11 +36,11 @@ loop-less c = search needs
 
 loop-again : tie.Need-loop-again Inv-loop μ-loop
 unfolding opened
-loop-again c = below-turn (c .before .before .before .loop .inv) (c .before .before .loop-test .taken) (λ e. false≢true (sym (c .if1 .left) ∙ c .before .is-sentence .ensures .1 e))
+loop-again c = below-turn (c .before .before .before .loop .inv) (omega (arith, c .before .before .loop-test .taken)) (λ e. false≢true (sym (c .if1 .left) ∙ c .before .is-sentence .ensures .1 e))
 
 returns-2 : tie.Need-returns-2 Inv-loop μ-loop
 unfolding opened
-returns-2 c = below-none (c .before .loop .inv) (c .loop-test .left)
+returns-2 c = below-none (c .before .loop .inv) (omega (arith, c .loop-test .left))
 
 pub sentence-number-spec : {M : Type 1} → statement M
 sentence-number-spec =
