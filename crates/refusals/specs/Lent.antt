@@ -8,7 +8,7 @@ use Rattle.refusals.specs.Answer.{Answer}
 use Rattle.refusals.specs.Answer.Answer.{success, refusal}
 use Rattle.refusals.specs.Number.{output-too-short}
 
--- the bytes s: their number, or a refusal where it is too short
+-- the bytes s: their number, or a refusal where the output is too short
 unfoldable pub lent : List ℕ → List ℕ → Answer ℕ
 lent s out = cond (leb (length s) (length out)) (success (length s)) (refusal output-too-short)
 

@@ -73,7 +73,7 @@ pub nothing-at-zero : (n : ℕ) → n ≡ 0 → sentenceOf n ≡ []
 unfolding wordsOf sentenceOf joined
 nothing-at-zero n e = ap sentenceOf e
 
--- so of every number
+-- no number has a longer sentence
 pub sentence-most : (n : ℕ) → length (sentenceOf n) ≤ sentence-bytes
 sentence-most n = go (leb 1 n) refl (leb n lastNumber) refl
   where
