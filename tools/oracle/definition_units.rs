@@ -1,5 +1,5 @@
 // The tables of crates/definition_units: small units and records with the Rust's answers, as antt.
-use crate::record::{Reading, read, record_of, written};
+use crate::record::{Reading, read, record_of, structure_of, written};
 use crate::refusal::numbers;
 use crate::show::{hex_of, unit_of};
 use crate::structures::{Mode, SHAPES, mode_of, shapes};
@@ -106,7 +106,7 @@ pub fn answer_of(reading: &Reading) -> Answer {
 fn shapes_of((unit, reading): &Answered) -> Vec<&'static str> {
     match reading {
         Reading::Refused(_) => Vec::new(),
-        Reading::Accepted { record, .. } => shapes(&parse_vps(&unit.bytes).expect("it is accepted"), record),
+        Reading::Accepted { record, .. } => shapes(&structure_of(&unit.bytes).expect("it is accepted"), record),
     }
 }
 

@@ -1,8 +1,10 @@
-// The Rust as judge: its answers in the numbers of 01, and makers of units, records and lists.
+// The Rust as judge, and a second judge for extension bits: their answers in the numbers of 01, and makers of units,
+// records and lists.
 pub mod broken;
 pub mod changed_records;
 pub mod definition_units;
 pub mod draft;
+pub mod extension_rule;
 pub mod leaves;
 pub mod list;
 pub mod random;

@@ -1,5 +1,7 @@
 // The Rust's answers, by sub-command: each is a module of its own.
-use judge::{changed_records, definition_units, leaves, record_list, records, samples, section_list, show, unit_list, units};
+use judge::{
+    changed_records, definition_units, leaves, record_list, records, samples, section_list, show, unit_list, units,
+};
 
 use std::io::Write;
 use std::process::ExitCode;

@@ -1,9 +1,9 @@
 // The record of 01 from the Rust's structure of a VPS, and back.
-use crate::refusal::number_of;
+use crate::extension_rule::{Found, ends_in_zero, found, write_rbsp, write_unit};
 use bitstream::h266::{
     VvcCpbSchedule, VvcDpbEntry, VvcDpbParameters, VvcGeneralTimingHrd, VvcOlsTimingHrd, VvcOlsTimingHrdSublayer,
     VvcProfileTierLevel, VvcSublayerHrd, VvcVps, VvcVpsDpb, VvcVpsLayer, VvcVpsOlsDpb, VvcVpsOlsHrd, VvcVpsPtl,
-    VvcVpsTimingHrd, parse_vps, write_vps, write_vps_nal,
+    VvcVpsTimingHrd, write_vps,
 };
 
 // What reading a unit gives: the record and the bits used, or a refusal's number.
@@ -13,27 +13,43 @@ pub enum Reading {
     Refused(u32),
 }
 
-pub fn read(unit: &[u8]) -> Reading {
-    match parse_vps(unit) {
-        Err(error) => Reading::Refused(number_of(&error)),
-        Ok(vps) => {
-            // The Rust doesn't say where its reading ended. An accepted unit has every field and code whole, each field
-            // and code has one length, and so have the alignments: the fields written again end where the reading did.
-            let rbsp = write_vps(&vps).expect("what was read can be written");
-            Reading::Accepted { record: record_of(&vps), bits_used: 8 * rbsp.len() }
+impl Reading {
+    pub fn of(found: &Found) -> Self {
+        match found {
+            Ok((vps, bits_used)) => Reading::Accepted { record: record_of(vps), bits_used: *bits_used },
+            Err(number) => Reading::Refused(*number),
         }
     }
 }
 
+// The Rust's answer, or the second judge's where the Rust's doesn't count.
+pub fn read(unit: &[u8]) -> Reading {
+    Reading::of(&found(unit))
+}
+
+// The structure of an accepted unit.
+pub fn structure_of(unit: &[u8]) -> Option<VvcVps> {
+    found(unit).ok().map(|(vps, _)| vps)
+}
+
 // The bytes of a well-formed record, or nothing. The Rust's writer accepts more than 01 calls well formed; a list is
-// well formed if it has the layout, the Rust writes it in at most 65,535 bytes of RBSP, and reading that gives the list.
-pub fn written(record: &[u32]) -> Option<Vec<u8>> {
-    let vps = vps_of(record)?;
-    let rbsp = write_vps(&vps).ok()?;
-    let unit = write_vps_nal(&vps).ok()?;
-    let again = read(&unit);
-    let same = again == Reading::Accepted { record: record.to_vec(), bits_used: 8 * rbsp.len() };
+// well formed if it has the layout, it is written in at most 65,535 bytes of RBSP, and reading that gives the list.
+pub fn written(list: &[u32]) -> Option<Vec<u8>> {
+    let vps = vps_of(list)?;
+    let rbsp = write_rbsp(&vps).ok()?;
+    let unit = write_unit(&vps).ok()?;
+    let same = read(&unit) == Reading::Accepted { record: list.to_vec(), bits_used: 8 * rbsp.len() };
     (rbsp.len() <= 65_535 && same).then_some(unit)
+}
+
+// Whether a list is written, or refused, by the second judge: it has the layout, and its extension ends in 0.
+pub fn set_aside(list: &[u32]) -> bool {
+    vps_of(list).is_some_and(|vps| ends_in_zero(&vps))
+}
+
+// Whether the Rust's writer takes a list.
+pub fn written_by_rust(list: &[u32]) -> bool {
+    vps_of(list).is_some_and(|vps| write_vps(&vps).is_ok())
 }
 
 // ── To the record ───────────────────────────────────────────────────────

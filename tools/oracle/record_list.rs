@@ -5,7 +5,7 @@ use crate::changed_records::changed;
 use crate::draft::{Coded, Draft};
 use crate::list::{List, put_number};
 use crate::random::Random;
-use crate::record::{Reading, read, record_of, written};
+use crate::record::{Reading, read, record_of, structure_of, written};
 use crate::record_numbers::{Coding, Number, numbers_of};
 use crate::show::unit_of;
 use crate::structures::{MODES, Maker, mode_of, shapes};
@@ -103,7 +103,7 @@ pub fn shapes_shown() -> String {
         let well_formed = answer == Answer::Written;
         ways.entry((case.kind, case.way)).or_default()[usize::from(!well_formed)] += 1;
         if well_formed && case.record.len() <= RECORD {
-            let v = parse_vps(&written(&case.record).expect("it is written")).expect("it is read back");
+            let v = structure_of(&written(&case.record).expect("it is written")).expect("it is read back");
             for name in shapes(&v, &case.record) {
                 *shown.entry(name).or_default() += 1;
             }
@@ -229,7 +229,7 @@ impl Cases {
 
     fn of_small(&mut self, i: usize, v: &VvcVps) {
         let record = record_of(v);
-        let unit = written(&record).expect("the Rust writes the structure and reads it back");
+        let unit = written(&record).expect("the structure is written and read back");
         let numbers = numbers_of(v);
         assert!(numbers.iter().map(|number| number.value).eq(record.iter().copied()), "the numbers are the record's");
         assert_eq!(coded_numbers(&numbers), coded_items(v), "the coded numbers are the items that the Rust writes");
@@ -264,7 +264,7 @@ impl Cases {
         if record.len() > RECORD {
             return;
         }
-        let unit = written(&record).expect("the Rust writes the structure and reads it back");
+        let unit = written(&record).expect("the structure is written and read back");
         let mode = mode_of(&record).name();
         let (way, most) = match unit.len() {
             0..=64 => return,

@@ -4,9 +4,8 @@
 use crate::changed_records::changed;
 use crate::list::{List, put_number};
 use crate::random::Random;
-use crate::record::{record_of, section_lengths, written};
+use crate::record::{record_of, section_lengths, structure_of, written};
 use crate::structures::{MODES, Maker, Mode};
-use bitstream::h266::parse_vps;
 use std::collections::HashSet;
 
 const SEED: u64 = 0x5345_4354;
@@ -120,7 +119,7 @@ fn case(list: &mut List, record: &[u32], well_formed: bool) {
 // Where each section of a well-formed record starts, and where the last one ends.
 fn starts_of(record: &[u32]) -> Option<Vec<usize>> {
     let unit = written(record)?;
-    let lengths = section_lengths(&parse_vps(&unit).expect("what is written can be read"));
+    let lengths = section_lengths(&structure_of(&unit).expect("what is written can be read"));
     let mut starts = vec![0];
     for length in lengths {
         starts.push(starts[starts.len() - 1] + length);

@@ -1,4 +1,5 @@
-// The Rust's answer for one unit, in words.
+// The Rust's answer for one unit, in words, and the second judge's where that one counts.
+use crate::extension_rule::{Found, Judges};
 use bitstream::h266::{parse_vps, write_vps_nal};
 
 // The bytes of a line of hexadecimal digits.
@@ -15,6 +16,22 @@ pub fn hex_of(bytes: &[u8]) -> String {
 
 // What reading says, and for an accepted unit its fields and what writing makes of them.
 pub fn answer(unit: &[u8]) -> String {
+    let judges = Judges::of(unit);
+    let by_rule = if judges.set_aside() { ruled(judges.found()) } else { String::new() };
+    by_rust(unit) + &by_rule
+}
+
+fn ruled(found: &Found) -> String {
+    match found {
+        Err(number) => format!("by the rule of 7.2: refused {number}\n"),
+        Ok((vps, bits_used)) => {
+            let bits: String = vps.vps_extension_data.iter().map(|bit| format!(" {bit}")).collect();
+            format!("by the rule of 7.2: accepted, bits used {bits_used}, extension bits{bits}\n")
+        }
+    }
+}
+
+fn by_rust(unit: &[u8]) -> String {
     match parse_vps(unit) {
         Err(error) => format!("refused: {error:?}\n"),
         Ok(vps) => {

@@ -1,4 +1,5 @@
-// VPS structures of every mode that look random; the Rust's writer takes each.
+// VPS structures of every mode that look random; the Rust's writer takes each whose extension doesn't end in 0.
+use crate::extension_rule::ends_in_zero;
 use crate::random::Random;
 use bitstream::h266::{
     VvcCpbSchedule, VvcDpbEntry, VvcDpbParameters, VvcGeneralTimingHrd, VvcOlsTimingHrd, VvcOlsTimingHrdSublayer,
@@ -349,9 +350,8 @@ impl Maker {
         if self.one_in(3) {
             v.vps_extension_flag = 1;
             if !self.one_in(3) {
-                let count = self.random.below(if self.small { 8 } else { 40 });
+                let count = 1 + self.random.below(if self.small { 8 } else { 40 });
                 v.vps_extension_data = (0..count).map(|_| self.flag()).collect();
-                v.vps_extension_data.push(1);
             }
         }
     }
@@ -428,11 +428,12 @@ pub fn shapes(v: &VvcVps, record: &[u32]) -> Vec<&'static str> {
     }
     add(v.vps_extension_flag == 1 && v.vps_extension_data.is_empty(), "extension without bits");
     add(!v.vps_extension_data.is_empty(), "extension with bits");
+    add(ends_in_zero(v), "extension that ends in 0");
     shapes
 }
 
 // All names that `shapes` gives of units with few layers.
-pub const SHAPES: [&str; 33] = [
+pub const SHAPES: [&str; 34] = [
     "one layer",
     "each layer a set",
     "mode 0",
@@ -466,4 +467,5 @@ pub const SHAPES: [&str; 33] = [
     "a timing entry for each set",
     "extension without bits",
     "extension with bits",
+    "extension that ends in 0",
 ];

@@ -2,11 +2,10 @@
 // buffer and of the record. The Rust has no buffers: 3, 4 and 30 are rules of this project, applied to its answers.
 use crate::definition_units::{Answer, answer_of};
 use crate::list::{List, put_number};
-use crate::record::{Reading, read, record_of};
+use crate::record::{Reading, read, record_of, structure_of};
 use crate::show::unit_of;
 use crate::structures::{mode_of, shapes};
 use crate::units::{Unit, Units};
-use bitstream::h266::parse_vps;
 use bitstream::nal::ebsp_to_rbsp;
 use std::collections::BTreeMap;
 
@@ -62,7 +61,7 @@ pub fn shapes_shown() -> String {
     let mut shown: BTreeMap<&str, usize> = BTreeMap::new();
     for case in cases_of_streams() {
         let (Answer::Accepted(_), _) = case.recorded() else { continue };
-        let v = parse_vps(&case.whole_unit()).expect("it is accepted");
+        let v = structure_of(&case.whole_unit()).expect("it is accepted");
         for name in shapes(&v, &record_of(&v)) {
             *shown.entry(name).or_default() += 1;
         }

@@ -1,12 +1,13 @@
-// Units of all kinds with the Rust's answers: structures of every mode as the Rust writes them, and damaged copies that
-// reach every refusal of its reader.
+// Units of all kinds with the judges' answers: structures of every mode as they are written, and damaged copies that
+// reach every refusal of the reader.
 use crate::draft::{Coded, Draft, unit_of_rbsp};
+use crate::extension_rule::{Judges, write_unit};
 use crate::random::Random;
-use crate::record::{Reading, read};
+use crate::record::{Reading, read, record_of};
 use crate::refusal::numbers;
 use crate::show::{hex_of, unit_of};
 use crate::structures::{MODES, Maker, shapes};
-use bitstream::h266::{VvcVps, parse_vps, write_vps_nal};
+use bitstream::h266::VvcVps;
 use bitstream::nal::ebsp_to_rbsp;
 use std::collections::{BTreeMap, HashSet, VecDeque};
 use std::fmt::Write;
@@ -63,13 +64,13 @@ impl Units {
         self.maker.random.below(limit)
     }
 
-    // A structure as the Rust writes it, and copies of it with damage of each kind.
+    // A structure as it is written, and copies of it with damage of each kind.
     fn base(&mut self) {
         let mode = MODES[self.bases % MODES.len()];
         let v = self.maker.structure(mode);
-        let unit = write_vps_nal(&v).expect("the Rust writes the structure");
+        let unit = write_unit(&v).expect("the structure is written");
         let draft = Draft::of(&v);
-        assert!(draft.unit() == unit, "the items are those that the Rust writes");
+        assert!(draft.unit() == unit, "the items are those that are written");
         if unit.len() > self.longest {
             return;
         }
@@ -331,7 +332,7 @@ fn targets(v: &VvcVps, draft: &Draft) -> Vec<Vec<Target>> {
 }
 
 // Units that 01 names or that show a point in which a reader is easily wrong.
-const NAMED: [&str; 32] = [
+const NAMED: [&str; 44] = [
     // U, U and more, U with other last bytes
     "0071100000030233000040",
     "0071100000030233000040ff",
@@ -355,11 +356,26 @@ const NAMED: [&str; 32] = [
     "ff6f100000030233000040",
     // the shortest accepted
     "0071d00040ffffc00040",
-    // an extension without bits, one of zeros behind, one to the end of the RBSP, the flag as last bit
+    // an extension without bits, one of a 1 and zeros, one to the end of the RBSP; flag 0 before zeros and a one
     "00711000000302330000c0",
     "00711000000302330000c080",
     "00711000000302330000c0ff",
     "007110000003023300000301",
+    // the extension bits 0, 1 0 0 and 0 0 0 0 0 0; over a byte of zeros; zeros behind the stop bit
+    "00711000000302330000a0",
+    "00711000000302330000c8",
+    "0071100000030233000081",
+    "00711000000302330000800040",
+    "00711000000302330000ff000003",
+    "00711000000302330000d0000003",
+    // extension flag 1 and nothing but zeros
+    "0071100000030233000080",
+    "007110000003023300008000",
+    "0071100000030233000080000003",
+    // extension flag 1 as last bit of the RBSP; with a stop bit behind, with 0 and a stop bit behind
+    "0071108400428080023300003300a5",
+    "0071108400428080023300003300a580",
+    "0071108400428080023300003300a540",
     // layer 1 on layer 0, mode 0; the same with a max tid of a reference
     "0071104000480002330000fc90",
     "00711040005f00000302330000fc90",
@@ -395,30 +411,36 @@ pub fn lines(seed: u64, count: usize, longest: usize) -> String {
     text
 }
 
-// How many units each refusal, each shape and each kind has.
+// How many units each refusal, each shape and each kind has, and how many are set aside.
 pub fn summary(seed: u64, count: usize, longest: usize) -> String {
     let mut units = Units::new(seed, longest);
     let mut refused: BTreeMap<u32, usize> = numbers().map(|number| (number, 0)).collect();
     let mut shown: BTreeMap<&str, usize> = BTreeMap::new();
     let mut kinds: BTreeMap<&str, (usize, usize)> = BTreeMap::new();
     let mut accepted = 0;
+    let mut set_aside = [0; 2];
     for _ in 0..count {
         let unit = units.next();
         let kind = kinds.entry(unit.kind).or_default();
         kind.0 += 1;
-        match read(&unit.bytes) {
-            Reading::Accepted { record, .. } => {
+        let judges = Judges::of(&unit.bytes);
+        assert!(judges.as_claimed(), "the judges differ only as they may: {}", hex_of(&unit.bytes));
+        if judges.set_aside() {
+            set_aside[usize::from(judges.found().is_err())] += 1;
+        }
+        match judges.found() {
+            Ok((v, _)) => {
                 accepted += 1;
                 kind.1 += 1;
-                let v = parse_vps(&unit.bytes).expect("it was accepted");
-                for name in shapes(&v, &record) {
+                for name in shapes(v, &record_of(v)) {
                     *shown.entry(name).or_default() += 1;
                 }
             }
-            Reading::Refused(number) => *refused.entry(number).or_default() += 1,
+            Err(number) => *refused.entry(*number).or_default() += 1,
         }
     }
     let mut text = format!("units {count}, accepted {accepted}\n");
+    text.push_str(&format!("set aside: accepted {}, refused 28 {}\n", set_aside[0], set_aside[1]));
     for (number, count) in refused {
         text.push_str(&format!("refused {number}: {count}\n"));
     }
