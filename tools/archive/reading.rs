@@ -1,10 +1,12 @@
-// Reading: vps_parse against the Rust, with the rules of this project for lengths and buffers (docs/DIFFERENCES.md).
+// Reading: vps_parse against the Rust, and against the second judge of extension bits where the Rust's answer doesn't
+// count, with the rules of this project for lengths and buffers (docs/DIFFERENCES.md).
 use crate::buffers::Guarded;
 use crate::calls;
-use crate::report::{shown, Answer, Report};
+use crate::report::{shown, Answer, Report, SetAside};
 use bitstream::nal::ebsp_to_rbsp;
+use judge::extension_rule::Judges;
 use judge::random::Random;
-use judge::record::{read, Reading};
+use judge::record::Reading;
 use judge::show::hex_of;
 use judge::structures::mode_of;
 
@@ -24,20 +26,35 @@ struct Left<'a> {
     record: &'a [u32],
 }
 
-// The Rust's answer, and the RBSP where the header is that of a VPS.
+// What the judges say, the answer that counts, and the RBSP where the header is that of a VPS.
 pub struct Judged {
+    pub judges: Judges,
     pub reading: Reading,
     rbsp: Vec<u8>,
 }
 
 impl Judged {
     pub fn of(unit: &[u8]) -> Self {
-        let reading = read(unit);
+        let judges = Judges::of(unit);
+        let reading = Reading::of(judges.found());
         let rbsp = match reading {
             Reading::Refused(1 | 2) => Vec::new(),
             _ => ebsp_to_rbsp(&unit[2..]),
         };
-        Self { reading, rbsp }
+        Self { judges, reading, rbsp }
+    }
+
+    // Counts the unit where the second judge has an answer. The judges may differ in one way alone.
+    fn count(&self, unit: &[u8], report: &mut Report) {
+        if self.judges.set_aside() {
+            let accepted = matches!(self.reading, Reading::Accepted { .. });
+            report.set_aside(if accepted { SetAside::UnitAccepted } else { SetAside::UnitRefused });
+        } else if self.judges.both_say() {
+            report.set_aside(SetAside::UnitOfBoth);
+        }
+        if !self.judges.as_claimed() {
+            report.difference(|| format!("the Rust and the rule of extension bits: {}", hex_of(unit)));
+        }
     }
 
     fn left(&self, work: usize, record: usize) -> Left<'_> {
@@ -78,6 +95,7 @@ impl Reader {
 
     // The unit with buffers of one length each, or of every length around the boundaries.
     pub fn compare(&mut self, unit: &[u8], judged: &Judged, every: bool, report: &mut Report) {
+        judged.count(unit, report);
         let needed = match &judged.reading {
             Reading::Accepted { record, .. } => record.len(),
             Reading::Refused(_) => [0, 1, 40, 200][self.random.below(4)],

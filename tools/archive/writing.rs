@@ -1,10 +1,11 @@
-// Writing: vps_write against the Rust, which also says what is well formed (judge::record::written).
+// Writing: vps_write against the Rust, which also says what is well formed (judge::record::written); against the second
+// judge of extension bits where they end in 0.
 use crate::buffers::Guarded;
 use crate::calls;
 use crate::reading::around;
-use crate::report::{shown, Answer, Report};
+use crate::report::{shown, Answer, Report, SetAside};
 use judge::random::Random;
-use judge::record::written;
+use judge::record::{set_aside, written, written_by_rust};
 use judge::show::hex_of;
 use judge::structures::mode_of;
 
@@ -23,6 +24,7 @@ impl Writer {
     // The record with an output of one length, or of every length around the boundary. Gives the unit, if there is one.
     pub fn compare(&mut self, record: &[u32], every: bool, report: &mut Report) -> Option<Vec<u8>> {
         let unit = written(record);
+        count(record, unit.is_some(), report);
         let exact = unit.as_ref().map_or_else(|| self.random.below(2 * record.len() + 2), Vec::len);
         let lengths = match self.random.below(16) {
             _ if every => around(exact),
@@ -56,6 +58,16 @@ impl Writer {
                     hex_of(self.output.now())
                 )
             });
+        }
+    }
+}
+
+// Counts a list whose extension ends in 0. The Rust writes none.
+fn count(list: &[u32], well_formed: bool, report: &mut Report) {
+    if set_aside(list) {
+        report.set_aside(if well_formed { SetAside::ListWritten } else { SetAside::ListRefused });
+        if written_by_rust(list) {
+            report.difference(|| format!("the Rust writes a list whose extension ends in 0: {}", shown(list)));
         }
     }
 }

@@ -1,7 +1,8 @@
-// Units to compare: all short ones, units of every mode and size as the Rust writes them, damaged copies, random bytes,
-// and units around the greatest length.
-use bitstream::h266::{write_vps, write_vps_nal, VvcVps};
-use judge::draft::unit_of_rbsp;
+// Units to compare: all short ones, units of every mode and size as they are written, damaged copies, random bytes, and
+// units around the greatest length.
+use bitstream::h266::{write_vps, VvcVps};
+use judge::draft::{unit_of_rbsp, Draft};
+use judge::extension_rule::{write_rbsp, write_unit};
 use judge::random::Random;
 use judge::show::unit_of;
 use judge::structures::{Maker, MODES};
@@ -72,6 +73,10 @@ pub struct Inputs {
 }
 
 const POOL: usize = 1_024;
+
+// A long extension ends in at most so many zeros: in a run of zeros with a one among them the Rust takes time that grows
+// with the square of its length.
+const MOST_ZEROS: usize = 4_096;
 
 impl Inputs {
     pub fn new(seed: u64) -> Self {
@@ -180,6 +185,11 @@ impl Inputs {
         }
     }
 
+    fn flipped(&mut self, mut unit: Vec<u8>) -> Vec<u8> {
+        self.flip(&mut unit);
+        unit
+    }
+
     // ── Long units ──────────────────────────────────────────────────────
 
     // A unit of over four thousand bytes: of any length, or around the greatest.
@@ -187,17 +197,16 @@ impl Inputs {
         loop {
             let v = self.structure();
             let length = [65_534, 65_535, 65_536, 65_537, 4_096 + self.random.below(61_000)][self.random.below(5)];
-            let found = match self.random.below(8) {
-                0..=2 => self.extended(v, length).map(|unit| ("long extension", unit)),
-                3 => self.followed(v, length).map(|unit| ("long, followed by bytes", unit)),
-                4 => followed_by_zeros(v, length).map(|unit| ("long, followed by zeros", unit)),
-                5 => self.extended(v, length).map(|mut unit| {
-                    self.flip(&mut unit);
-                    ("long, bits flipped", unit)
-                }),
-                _ => Some(("long tables", self.grown())),
+            let (kind, unit) = match self.random.below(10) {
+                0..=2 => ("long extension", self.extended(v, length)),
+                3 => ("long, followed by bytes", self.followed(v, length)),
+                4 => ("long, followed by zeros", followed_by_zeros(v, length)),
+                5 => ("long, bits flipped", self.extended(v, length).map(|unit| self.flipped(unit))),
+                6 => ("long extension, followed by zeros", self.extended_before_zeros(v, length)),
+                7 => ("long, zeros or ones and zeros behind the extension flag", self.flagged(v, length)),
+                _ => ("long tables", Some(self.grown())),
             };
-            if let Some((kind, unit)) = found {
+            if let Some(unit) = unit {
                 return Input { unit, kind };
             }
         }
@@ -208,16 +217,42 @@ impl Inputs {
         self.maker.structure(MODES[self.longs % MODES.len()])
     }
 
-    // With extension bits up to a length of the RBSP, mostly as many ones as zeros.
-    fn extended(&mut self, mut v: VvcVps, length: usize) -> Option<Vec<u8>> {
+    fn extended(&mut self, v: VvcVps, length: usize) -> Option<Vec<u8>> {
+        Some(unit_of_rbsp(&self.extended_rbsp(v, length)?))
+    }
+
+    // With extension bits up to a length of the RBSP, mostly as many ones as zeros; the last is a 1, or the last are zeros.
+    fn extended_rbsp(&mut self, mut v: VvcVps, length: usize) -> Option<Vec<u8>> {
         v.vps_extension_flag = 1;
         v.vps_extension_data = vec![1];
         let begun = write_vps(&v).expect("the Rust writes the structure").len();
         let bits = 8 * length.checked_sub(begun)?;
         let one_in = if self.random.below(8) == 0 { 40 } else { 2 };
+        let zeros = if self.random.below(2) == 0 { 0 } else { 1 + self.random.below(bits.min(MOST_ZEROS)) };
         v.vps_extension_data = (0..bits).map(|_| u8::from(self.random.below(one_in) == 0)).collect();
         v.vps_extension_data.push(1);
-        Some(write_vps_nal(&v).expect("the Rust writes the structure"))
+        v.vps_extension_data[bits + 1 - zeros..].fill(0);
+        Some(write_rbsp(&v).expect("the structure is written"))
+    }
+
+    // With extension bits up to some length, and whole bytes of zeros behind the stop bit.
+    fn extended_before_zeros(&mut self, v: VvcVps, length: usize) -> Option<Vec<u8>> {
+        let extended = self.random.below(length);
+        let mut rbsp = self.extended_rbsp(v, extended)?;
+        rbsp.resize(length, 0);
+        Some(unit_of_rbsp(&rbsp))
+    }
+
+    // With extension flag 1, and behind it nothing but zeros, or ones up to the middle and then zeros.
+    fn flagged(&mut self, mut v: VvcVps, length: usize) -> Option<Vec<u8>> {
+        v.vps_extension_flag = 1;
+        let draft = Draft::of(&v);
+        let mut rbsp = draft.rbsp(draft.places("vps_extension_flag")[0] + 1);
+        let count = length.checked_sub(rbsp.len())?;
+        let ones = if self.random.below(2) == 0 { 0 } else { count / 2 };
+        rbsp.extend(vec![0xff; ones]);
+        rbsp.resize(length, 0);
+        Some(unit_of_rbsp(&rbsp))
     }
 
     // Without extension, and with random bytes behind.
@@ -233,7 +268,7 @@ impl Inputs {
         let mut unit = Vec::new();
         while unit.len() <= 4_096 || unit.len() > 100_000 {
             let v = self.structure();
-            unit = write_vps_nal(&v).expect("the Rust writes the structure");
+            unit = write_unit(&v).expect("the structure is written");
         }
         match self.random.below(4) {
             0 => self.flip(&mut unit),

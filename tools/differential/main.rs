@@ -1,6 +1,6 @@
 // The static archive against the Rust, over many units, records and byte strings: every number that a call returns or
-// stores and every lent buffer afterwards; and the sentences of the refusals that were met. Ends with 1 if anything differs
-// or if an answer was met too seldom.
+// stores and every lent buffer afterwards; and the sentences of the refusals that were met. What is set aside, extension
+// bits that end in 0, is held to the second judge. Ends with 1 if anything differs or if an answer was met too seldom.
 mod inputs;
 
 use archive::reading::{Judged, Reader};
@@ -9,7 +9,6 @@ use archive::sections::Sections;
 use archive::sentences;
 use archive::stuffing::Stuffing;
 use archive::writing::Writer;
-use bitstream::h266::parse_vps;
 use inputs::{exhaustive, Input, Inputs};
 use judge::changed_records::changed;
 use judge::random::Random;
@@ -102,9 +101,8 @@ impl Run {
         if self.random.below(16) == 0 {
             self.stuffing.compare("unit", &input.unit, &mut self.report);
         }
-        if let Reading::Accepted { record, .. } = judged.reading {
-            let vps = parse_vps(&input.unit).expect("it is accepted");
-            shapes(&vps, &record).into_iter().for_each(|name| self.report.shape(name));
+        if let (Reading::Accepted { record, .. }, Ok((vps, _))) = (judged.reading, judged.judges.found()) {
+            shapes(vps, &record).into_iter().for_each(|name| self.report.shape(name));
             self.list("record of a unit", &record, every);
             for _ in 0..if long { 1 } else { 2 } {
                 let other = changed(&mut self.random, &record);
