@@ -1,4 +1,5 @@
-// Structures that break a rule: changes of a structure that the Rust writes, each named by what it breaks.
+// Changes of a structure that is written: those that break a rule, each named by what it breaks, and others that leave the
+// structure well formed.
 use crate::random::Random;
 use crate::structures::sets;
 use bitstream::h266::{
@@ -9,7 +10,7 @@ use bitstream::h266::{
 // Changes a structure, and says whether it has what is to be changed.
 type Change = fn(&mut VvcVps, &mut Random) -> Option<()>;
 
-pub struct Breaking {
+pub struct Changing {
     pub what: &'static str,
     pub change: Change,
 }
@@ -381,20 +382,20 @@ fn timing_index_over(v: &mut VvcVps, random: &mut Random) -> Option<()> {
 // ── Parts that are not coded ────────────────────────────────────────────
 
 // Each is there with all its numbers in place, so that only its being there is wrong.
-pub const UNCODED: [Breaking; 13] = [
-    Breaking { what: "another PTL max tid with its flags", change: another_ptl_tid },
-    Breaking { what: "another DPB max tid with its triples", change: another_dpb_tid },
-    Breaking { what: "another timing max tid with its sublayers", change: another_timing_tid },
-    Breaking { what: "the first PTL without profile and tier", change: first_ptl_not_present },
-    Breaking { what: "a dependent layer under all-independent 1", change: dependent_under_independent },
-    Breaking { what: "two PTLs of one layer", change: two_ptls_of_one_layer },
-    Breaking { what: "a row outside mode 2", change: row_outside_mode_two },
-    Breaking { what: "a DPB slot under each-layer 1", change: slot_under_each_layer },
-    Breaking { what: "a DPB entry under each-layer 1", change: entry_under_each_layer },
-    Breaking { what: "timing under each-layer 1", change: timing_under_each_layer },
-    Breaking { what: "each-layer 1 with dependent layers", change: each_layer_of_dependent },
-    Breaking { what: "mode 0 or 1 under all-independent 1", change: mode_under_independent },
-    Breaking { what: "one layer under each-layer 0", change: one_layer_not_each },
+pub const UNCODED: [Changing; 13] = [
+    Changing { what: "another PTL max tid with its flags", change: another_ptl_tid },
+    Changing { what: "another DPB max tid with its triples", change: another_dpb_tid },
+    Changing { what: "another timing max tid with its sublayers", change: another_timing_tid },
+    Changing { what: "the first PTL without profile and tier", change: first_ptl_not_present },
+    Changing { what: "a dependent layer under all-independent 1", change: dependent_under_independent },
+    Changing { what: "two PTLs of one layer", change: two_ptls_of_one_layer },
+    Changing { what: "a row outside mode 2", change: row_outside_mode_two },
+    Changing { what: "a DPB slot under each-layer 1", change: slot_under_each_layer },
+    Changing { what: "a DPB entry under each-layer 1", change: entry_under_each_layer },
+    Changing { what: "timing under each-layer 1", change: timing_under_each_layer },
+    Changing { what: "each-layer 1 with dependent layers", change: each_layer_of_dependent },
+    Changing { what: "mode 0 or 1 under all-independent 1", change: mode_under_independent },
+    Changing { what: "one layer under each-layer 0", change: one_layer_not_each },
 ];
 
 // Another max tid than that inferred, within the rule.
@@ -536,23 +537,23 @@ fn one_layer_not_each(v: &mut VvcVps, random: &mut Random) -> Option<()> {
 // ── Counts ──────────────────────────────────────────────────────────────
 
 // An entry more or less than there is to be, with all the numbers of the entry.
-pub const COUNTS: [Breaking; 16] = [
-    Breaking { what: "a layer more or less", change: layer_more_or_less },
-    Breaking { what: "a pair of references more or less", change: pair_more_or_less },
-    Breaking { what: "a row more or less", change: row_more_or_less },
-    Breaking { what: "no row in mode 2", change: no_row },
-    Breaking { what: "a flag of a row more or less", change: row_flag_more_or_less },
-    Breaking { what: "no PTL", change: no_ptl },
-    Breaking { what: "a sublayer flag more or less", change: sublayer_flag_more_or_less },
-    Breaking { what: "a sublayer level more or less", change: sublayer_level_more_or_less },
-    Breaking { what: "a set's PTL index more or less", change: ptl_index_more_or_less },
-    Breaking { what: "no DPB slot", change: no_slot },
-    Breaking { what: "a triple more or less", change: triple_more_or_less },
-    Breaking { what: "a DPB entry more or less", change: dpb_entry_more_or_less },
-    Breaking { what: "no timing entry", change: no_timing_entry },
-    Breaking { what: "a timing sublayer more or less", change: timing_sublayer_more_or_less },
-    Breaking { what: "a schedule more or less", change: schedule_more_or_less },
-    Breaking { what: "a timing index more or less", change: timing_index_more_or_less },
+pub const COUNTS: [Changing; 16] = [
+    Changing { what: "a layer more or less", change: layer_more_or_less },
+    Changing { what: "a pair of references more or less", change: pair_more_or_less },
+    Changing { what: "a row more or less", change: row_more_or_less },
+    Changing { what: "no row in mode 2", change: no_row },
+    Changing { what: "a flag of a row more or less", change: row_flag_more_or_less },
+    Changing { what: "no PTL", change: no_ptl },
+    Changing { what: "a sublayer flag more or less", change: sublayer_flag_more_or_less },
+    Changing { what: "a sublayer level more or less", change: sublayer_level_more_or_less },
+    Changing { what: "a set's PTL index more or less", change: ptl_index_more_or_less },
+    Changing { what: "no DPB slot", change: no_slot },
+    Changing { what: "a triple more or less", change: triple_more_or_less },
+    Changing { what: "a DPB entry more or less", change: dpb_entry_more_or_less },
+    Changing { what: "no timing entry", change: no_timing_entry },
+    Changing { what: "a timing sublayer more or less", change: timing_sublayer_more_or_less },
+    Changing { what: "a schedule more or less", change: schedule_more_or_less },
+    Changing { what: "a timing index more or less", change: timing_index_more_or_less },
 ];
 
 fn more_or_less<T: Clone>(items: &mut Vec<T>, another: T, random: &mut Random) {
@@ -678,15 +679,16 @@ fn timing_index_more_or_less(v: &mut VvcVps, random: &mut Random) -> Option<()> 
 
 // ── Constraints and extension ───────────────────────────────────────────
 
-pub const CONSTRAINTS: [Breaking; 7] = [
-    Breaking { what: "a bit more or less than 77 + A", change: constraint_more_or_less },
-    Breaking { what: "a byte of bits more than 77 + A", change: constraint_byte_more },
-    Breaking { what: "another A", change: another_additional },
-    Breaking { what: "bits without their flag", change: constraints_without_flag },
-    Breaking { what: "the flag without bits", change: constraint_flag_alone },
-    Breaking { what: "under 77 bits", change: constraints_cut },
-    Breaking { what: "another bit outside A", change: another_constraint },
+pub const CONSTRAINTS: [Changing; 6] = [
+    Changing { what: "a bit more or less than 77 + A", change: constraint_more_or_less },
+    Changing { what: "a byte of bits more than 77 + A", change: constraint_byte_more },
+    Changing { what: "another A", change: another_additional },
+    Changing { what: "bits without their flag", change: constraints_without_flag },
+    Changing { what: "the flag without bits", change: constraint_flag_alone },
+    Changing { what: "under 77 bits", change: constraints_cut },
 ];
+
+pub const OTHER_CONSTRAINTS: [Changing; 1] = [Changing { what: "another bit outside A", change: another_constraint }];
 
 fn constraint_more_or_less(v: &mut VvcVps, random: &mut Random) -> Option<()> {
     more_or_less(&mut constrained(v, random)?.gci_bits, false, random);
@@ -732,13 +734,17 @@ fn another_constraint(v: &mut VvcVps, random: &mut Random) -> Option<()> {
     Some(())
 }
 
-pub const EXTENSION: [Breaking; 6] = [
-    Breaking { what: "bits without their flag", change: extension_without_flag },
-    Breaking { what: "a zero without the flag", change: extension_zero_without_flag },
-    Breaking { what: "a zero at the end", change: extension_ends_in_zero },
-    Breaking { what: "zeros alone", change: extension_of_zeros },
-    Breaking { what: "no bits", change: extension_without_bits },
-    Breaking { what: "other bits", change: other_extension },
+pub const EXTENSION: [Changing; 2] = [
+    Changing { what: "bits without their flag", change: extension_without_flag },
+    Changing { what: "zeros without the flag", change: extension_zeros_without_flag },
+];
+
+// The bits may end in 0 or in 1.
+pub const OTHER_EXTENSION: [Changing; 4] = [
+    Changing { what: "zeros at the end", change: extension_ends_in_zeros },
+    Changing { what: "zeros alone", change: extension_of_zeros },
+    Changing { what: "no bits", change: extension_without_bits },
+    Changing { what: "other bits", change: other_extension },
 ];
 
 fn extension_without_flag(v: &mut VvcVps, random: &mut Random) -> Option<()> {
@@ -748,13 +754,13 @@ fn extension_without_flag(v: &mut VvcVps, random: &mut Random) -> Option<()> {
     Some(())
 }
 
-fn extension_zero_without_flag(v: &mut VvcVps, _: &mut Random) -> Option<()> {
+fn extension_zeros_without_flag(v: &mut VvcVps, random: &mut Random) -> Option<()> {
     v.vps_extension_flag = 0;
-    v.vps_extension_data = vec![0];
+    v.vps_extension_data = vec![0; 1 + random.below(9)];
     Some(())
 }
 
-fn extension_ends_in_zero(v: &mut VvcVps, random: &mut Random) -> Option<()> {
+fn extension_ends_in_zeros(v: &mut VvcVps, random: &mut Random) -> Option<()> {
     v.vps_extension_flag = 1;
     v.vps_extension_data.push(1);
     v.vps_extension_data.extend(vec![0; 1 + random.below(9)]);
@@ -775,7 +781,6 @@ fn extension_without_bits(v: &mut VvcVps, random: &mut Random) -> Option<()> {
 
 fn other_extension(v: &mut VvcVps, random: &mut Random) -> Option<()> {
     v.vps_extension_flag = 1;
-    v.vps_extension_data = (0..random.below(30)).map(|_| random.below(2) as u8).collect();
-    v.vps_extension_data.push(1);
+    v.vps_extension_data = (0..1 + random.below(30)).map(|_| random.below(2) as u8).collect();
     Some(())
 }

@@ -1,5 +1,6 @@
-// The tables of crates/definition_units: small units and records with the Rust's answers, as antt.
-use crate::record::{Reading, read, record_of, structure_of, written};
+// The tables of crates/definition_units: small units and records with the judges' answers, as antt.
+use crate::extension_rule::Judges;
+use crate::record::{Reading, read, record_of, set_aside, structure_of, written};
 use crate::refusal::numbers;
 use crate::show::{hex_of, unit_of};
 use crate::structures::{Mode, SHAPES, mode_of, shapes};
@@ -27,19 +28,19 @@ const LONGER: Stream = Stream { seed: 0x5650_5302, shortest: 41, longest: 80, ea
 // So many units of a stream are looked at.
 const LENGTH: usize = 40_000;
 
-// Of units as the Rust writes them, so many of each mode.
-const WRITTEN_EACH: usize = 12;
+// Of units as they are written, so many of each mode.
+const WRITTEN_EACH: usize = 10;
 
 // Reaching layers takes the definition long where there are many.
 const MOST_LAYERS: usize = 5;
 
 // The files of short units, each with what it has and with the kinds that it takes.
 const FILES: [(&str, &str, &[&str]); 5] = [
-    ("UnitsWritten", "Units as the Rust writes them, in every mode, with the way back from the record.", &["written"]),
+    ("UnitsWritten", "Units as they are written, in every mode, with the way back from the record.", &["written"]),
     (
         "UnitsFramed",
-        "Units that the papers name, and units with another header, other alignment bits, bytes behind or less stuffing.",
-        &["named", "header", "alignment", "appended", "unstuffed"],
+        "Units with another header, other alignment bits, bytes behind or less stuffing.",
+        &["header", "alignment", "appended", "unstuffed"],
     ),
     (
         "UnitsRefused",
@@ -48,8 +49,8 @@ const FILES: [(&str, &str, &[&str]); 5] = [
     ),
     (
         "UnitsCut",
-        "Units cut behind a byte, or behind an item and then filled with zeros or ones.",
-        &["cut", "cut behind an item"],
+        "Units that the papers name, and units cut behind a byte, or behind an item and then filled with zeros or ones.",
+        &["named", "cut", "cut behind an item"],
     ),
     ("UnitsChanged", "Units with bits flipped or with other values in their fields.", &["flipped", "another value"]),
 ];
@@ -72,16 +73,19 @@ pub fn write(folder: &str) -> std::io::Result<String> {
     put(
         folder,
         "RecordsChanged",
-        "Records with another number, one more or one less: written as the Rust writes them, or not well formed; the Rust writes some of those too.",
+        "Records with another number, one more or one less: written, or not well formed; the Rust writes some of those too.",
         &records.table,
     )?;
     let units: Vec<&Answered> = files.into_iter().flat_map(|(_, _, units)| units).collect();
     let both = units.iter().filter(|answered| way_back(answered)).count();
     Ok(format!(
-        "{}accepted, with the way back {both}\nrecords changed and written {}, not well formed {}\n",
+        "{}{}accepted, with the way back {both}\nrecords changed and written {}, not well formed {}\nset aside of these {}, {}\n",
         counts(&units),
+        units_set_aside(&units),
         records.good,
-        records.broken
+        records.broken,
+        records.set_aside[0],
+        records.set_aside[1],
     ))
 }
 
@@ -175,6 +179,13 @@ fn counts(units: &[&Answered]) -> String {
     text
 }
 
+// How many units are set aside, so that the answer is the second judge's.
+fn units_set_aside(units: &[&Answered]) -> String {
+    let of_rule: Vec<_> = units.iter().filter(|(unit, _)| Judges::of(&unit.bytes).set_aside()).collect();
+    let accepted = of_rule.iter().filter(|(_, reading)| matches!(reading, Reading::Accepted { .. })).count();
+    format!("set aside: accepted {accepted}, refused 28 {}\n", of_rule.len() - accepted)
+}
+
 // ── Records ─────────────────────────────────────────────────────────────
 
 pub const U: &str = "0071100000030233000040";
@@ -185,12 +196,14 @@ struct Records {
     table: Table,
     good: usize,
     broken: usize,
+    // of the good and of the broken, those that the second judge says
+    set_aside: [usize; 2],
     seen: HashSet<Vec<u32>>,
 }
 
 impl Records {
     fn made() -> Self {
-        let mut records = Self { table: Table::default(), good: 0, broken: 0, seen: HashSet::new() };
+        let mut records = Self { table: Table::default(), good: 0, broken: 0, set_aside: [0; 2], seen: HashSet::new() };
         let u = vps_of(U);
         let d = vps_of(D);
         records.lengths("u", &record_of(&u));
@@ -217,7 +230,11 @@ impl Records {
         if !self.seen.insert(numbers.clone()) {
             return;
         }
-        let line = match written(&numbers) {
+        let unit = written(&numbers);
+        if set_aside(&numbers) {
+            self.set_aside[usize::from(unit.is_none())] += 1;
+        }
+        let line = match unit {
             Some(unit) => {
                 self.good += 1;
                 format!("written {antt} {}", bytes(&unit))
@@ -296,9 +313,16 @@ impl Records {
             let record = record_of(v);
             self.add(about, list(&record), record);
         };
-        for (flag, bits) in
-            [(1, vec![1]), (1, vec![0, 1]), (1, vec![0]), (1, vec![1, 0]), (1, vec![2, 1]), (1, vec![2]), (0, vec![1])]
-        {
+        for (flag, bits) in [
+            (1, vec![1]),
+            (1, vec![0, 1]),
+            (1, vec![0]),
+            (1, vec![1, 0]),
+            (1, vec![2, 1]),
+            (1, vec![2]),
+            (0, vec![1]),
+            (0, vec![0]),
+        ] {
             let mut v = u.clone();
             v.vps_extension_flag = flag;
             v.vps_extension_data = bits;
@@ -455,7 +479,7 @@ struct Table {
     entries: Vec<(String, String)>,
 }
 
-// A unit with its reading, and with the way back where the Rust writes the record as this unit.
+// A unit with its reading, and with the way back where the record is written as this unit.
 fn unit_entry(answered: &Answered) -> (String, String) {
     let (unit, reading) = answered;
     let line = match reading {

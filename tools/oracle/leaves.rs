@@ -1,5 +1,7 @@
 // The Rust's answers on stuffing, reading bits and writing bits, as a list for crates/leaves_replay.
-// Where our functions have a rule that the Rust has not, the expected answer is the Rust's with that rule applied.
+// Where our functions have a rule that the Rust has not, the expected answer is the Rust's with that rule applied;
+// whether there are more data is answered by the rule of extension bits alone.
+use crate::extension_rule::more_rbsp_data;
 use crate::list::List;
 use crate::random::Random;
 use bitstream::BitstreamError;
@@ -38,13 +40,23 @@ const TRAILING: u8 = 5;
 const PLACE_LIMIT: u64 = 1 << 63;
 
 pub fn list() -> List {
-    let mut leaves = Leaves { list: List::new(4_096), random: Random::new(0x4832_3636) };
+    made().list
+}
+
+// How many answers of the question for more data are the Rust's too, the rule's alone, and 31.
+pub fn judges() -> String {
+    let [both, rule, refused] = made().asked_for_more;
+    format!("more_rbsp_data: the Rust's and the rule's {both}, the rule's alone {rule}, 31 {refused}\n")
+}
+
+fn made() -> Leaves {
+    let mut leaves = Leaves { list: List::new(4_096), random: Random::new(0x4832_3636), asked_for_more: [0; 3] };
     leaves.stuffing();
     leaves.peeking();
     leaves.reading();
     leaves.writing();
     leaves.chains();
-    leaves.list
+    leaves
 }
 
 // ── What is expected ────────────────────────────────────────────────────
@@ -162,6 +174,8 @@ fn bytes_for(bits: u64) -> usize {
 struct Leaves {
     list: List,
     random: Random,
+    // answers that are the Rust's and the rule's, the rule's alone, and 31
+    asked_for_more: [usize; 3],
 }
 
 // Every string of a length over some bytes.
@@ -322,11 +336,17 @@ impl Leaves {
     }
 
     fn more_case(&mut self, bytes: &[u8], at: u64) {
-        let answer = self.asked(at, reader_at(bytes, at).more_rbsp_data());
+        let more = more_rbsp_data(bytes, at);
+        let answer = self.asked(at, more);
+        let judged_by = match reader_at(bytes, at).more_rbsp_data() {
+            _ if answer.number == NOT_WELL_FORMED => 2,
+            by_rust => usize::from(by_rust != more),
+        };
+        self.asked_for_more[judged_by] += 1;
         self.bits_case(MORE_RBSP_DATA, at, 0, &answer, bytes);
     }
 
-    // The Rust's yes or no, but 31 from 2^63 on.
+    // Yes or no, but 31 from 2^63 on.
     fn asked(&self, at: u64, yes: bool) -> Answer {
         if at >= PLACE_LIMIT {
             Answer::refused(NOT_WELL_FORMED)

@@ -1,4 +1,4 @@
-// The Rust's answers, by sub-command: each is a module of its own.
+// The judges' answers, by sub-command: each is a module of its own.
 use judge::{
     changed_records, definition_units, leaves, record_list, records, samples, section_list, show, unit_list, units,
 };
@@ -8,16 +8,20 @@ use std::process::ExitCode;
 
 const USAGE: &str = "oracle leaves                                the list that crates/leaves_replay replays, as bytes
 oracle leaves expected                       what it is to print
+oracle leaves judges                         how many of its answers for more data are the Rust's, and the rule's alone
 oracle unit-list                             the list that crates/units_replay replays, as bytes
 oracle unit-list expected                    what it is to print
 oracle unit-list shapes                      how many of its accepted cases show each shape
+oracle unit-list set-aside                   how many cases of each answer are the second judge's
 oracle record-list                           the list that crates/records_replay replays, as bytes
 oracle record-list expected                  what it is to print
 oracle record-list shapes                    how many of its written cases show each shape, and how many each way has
+oracle record-list set-aside                 how many cases of each answer are the second judge's
 oracle section-list                          the list that crates/sections_replay replays, as bytes
 oracle section-list expected                 what it is to print
-oracle show HEX                              the Rust's answer for a unit
-oracle records                               what the Rust writes for records that are not well formed
+oracle section-list set-aside                how many records are well formed, and not, by the second judge
+oracle show HEX                              the Rust's answer for a unit, and the second judge's where that counts
+oracle records                               what the Rust writes for records that are not well formed, and for some that are
 oracle units SEED COUNT MAXBYTES             a line a unit: bytes, and record with bits used, or refusal
 oracle units-summary SEED COUNT MAXBYTES     how many of those each refusal and each shape has
 oracle changed-records SEED COUNT MAXBYTES   a line a record: numbers, and the unit of at most so many bytes, or 31
@@ -30,14 +34,18 @@ fn main() -> ExitCode {
     match words.as_slice() {
         ["leaves"] => write_out(leaves::list().bytes()),
         ["leaves", "expected"] => write_out(leaves::list().expected().as_bytes()),
+        ["leaves", "judges"] => write_out(leaves::judges().as_bytes()),
         ["unit-list"] => write_out(unit_list::list().bytes()),
         ["unit-list", "expected"] => write_out(unit_list::list().expected().as_bytes()),
         ["unit-list", "shapes"] => write_out(unit_list::shapes_shown().as_bytes()),
+        ["unit-list", "set-aside"] => write_out(unit_list::set_aside().as_bytes()),
         ["record-list"] => write_out(record_list::list().bytes()),
         ["record-list", "expected"] => write_out(record_list::list().expected().as_bytes()),
         ["record-list", "shapes"] => write_out(record_list::shapes_shown().as_bytes()),
+        ["record-list", "set-aside"] => write_out(record_list::set_aside().as_bytes()),
         ["section-list"] => write_out(section_list::list().bytes()),
         ["section-list", "expected"] => write_out(section_list::list().expected().as_bytes()),
+        ["section-list", "set-aside"] => write_out(section_list::set_aside().as_bytes()),
         ["show", hex] => match show::unit_of(hex) {
             Some(unit) => write_out(show::answer(&unit).as_bytes()),
             None => fail("not pairs of hexadecimal digits"),

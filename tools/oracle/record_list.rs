@@ -1,11 +1,13 @@
-// The list that crates/records_replay replays: records of all kinds with the Rust's bytes or 31, each with a length of
-// the output. The Rust has no output: 32 is a rule of this project, applied to its answers; 31 is said first.
-use crate::broken::{Breaking, CONSTRAINTS, COUNTS, EXTENSION, RULES, UNCODED, settle};
+// The list that crates/records_replay replays: records of all kinds with the judges' bytes or 31, each with a length of
+// the output. The Rust has no output: 32 is a rule of this project, applied to the answers; 31 is said first.
+use crate::broken::{
+    CONSTRAINTS, COUNTS, Changing, EXTENSION, OTHER_CONSTRAINTS, OTHER_EXTENSION, RULES, UNCODED, settle,
+};
 use crate::changed_records::changed;
 use crate::draft::{Coded, Draft};
 use crate::list::{List, put_number};
 use crate::random::Random;
-use crate::record::{Reading, read, record_of, structure_of, written};
+use crate::record::{self, Reading, read, record_of, structure_of, written};
 use crate::record_numbers::{Coding, Number, numbers_of};
 use crate::show::unit_of;
 use crate::structures::{MODES, Maker, mode_of, shapes};
@@ -56,6 +58,15 @@ enum Answer {
     Refused(u32),
 }
 
+impl Answer {
+    fn name(self) -> String {
+        match self {
+            Answer::Written => "written".to_string(),
+            Answer::Refused(number) => format!("refused {number}"),
+        }
+    }
+}
+
 struct Case {
     kind: String,
     // how it was made
@@ -86,12 +97,18 @@ pub fn list() -> List {
     let mut list = List::new(CONTENT);
     for ((order, answer), contents) in &answered {
         contents.iter().for_each(|(tag, content)| list.case(*tag, content));
-        list.end_of_kind(&match answer {
-            Answer::Written => format!("{}, written", kinds[*order]),
-            Answer::Refused(number) => format!("{}, refused {number}", kinds[*order]),
-        });
+        list.end_of_kind(&format!("{}, {}", kinds[*order], answer.name()));
     }
     list
+}
+
+// How many cases each answer has whose record is set aside, so that the answer is the second judge's.
+pub fn set_aside() -> String {
+    let mut counts: BTreeMap<Answer, usize> = BTreeMap::new();
+    for case in cases().iter().filter(|case| record::set_aside(&case.record)) {
+        *counts.entry(case.recorded().0).or_default() += 1;
+    }
+    counts.iter().map(|(answer, count)| format!("{}: {count}\n", answer.name())).collect()
 }
 
 // How many cases that are written show each shape, and how many each way of making has.
@@ -321,18 +338,22 @@ impl Cases {
                 self.add_changed(&kind, "structure", RULE_EACH, record_of(&other));
             }
         }
-        let tables: [(&str, &[Breaking]); 4] = [
-            ("uncoded part", &UNCODED),
-            ("entries", &COUNTS),
-            ("constraints", &CONSTRAINTS),
-            ("extension", &EXTENSION),
-        ];
-        for (kind, breakings) in tables {
-            for breaking in breakings {
-                let mut other = v.clone();
-                if self.below(4) == 0 && (breaking.change)(&mut other, &mut self.random).is_some() {
-                    self.add_changed(kind, breaking.what, STRUCTURE_EACH, record_of(&other));
-                }
+        self.changed_structures("uncoded part", &UNCODED, &[false], v);
+        self.changed_structures("entries", &COUNTS, &[false, true], v);
+        self.changed_structures("constraints", &CONSTRAINTS, &[false], v);
+        self.changed_structures("constraints", &OTHER_CONSTRAINTS, &[true], v);
+        self.changed_structures("extension", &EXTENSION, &[false], v);
+        self.changed_structures("extension", &OTHER_EXTENSION, &[true], v);
+    }
+
+    // The changes of a table, and whether what they make is well formed.
+    fn changed_structures(&mut self, kind: &str, changes: &[Changing], well_formed: &[bool], v: &VvcVps) {
+        for Changing { what, change } in changes {
+            let mut other = v.clone();
+            if self.below(4) == 0 && change(&mut other, &mut self.random).is_some() {
+                let record = record_of(&other);
+                assert!(well_formed.contains(&written(&record).is_some()), "the change does as its table says: {what}");
+                self.add_changed(kind, what, STRUCTURE_EACH, record);
             }
         }
     }
@@ -421,29 +442,39 @@ impl Cases {
         self.add_changed("limits", way, usize::MAX, record_of(v));
     }
 
-    // Around the longest RBSP, by extension bits of ones; and a long run of zeros.
+    // Around the longest RBSP, by extension bits of ones, the last of them a zero or not; and a long run of zeros before a
+    // one and behind a one.
     fn long(&mut self) {
         for hex in ["0071100000030233000040", "0071104000480002330000fc90"] {
             let v = parse_vps(&unit_of(hex).expect("digits")).expect("a unit that is accepted");
             let most = most_bits(&v);
             for count in [most - 8, most - 7, most, most + 1, most + 8] {
-                let record = record_of(&with_bits(&v, vec![1; count]));
-                match written(&record) {
-                    Some(unit) => {
-                        self.add("limits", "RBSP", usize::MAX, record.clone(), unit.len());
-                        self.add("limits", "RBSP", usize::MAX, record, unit.len() - 1);
-                    }
-                    None => {
-                        self.add("limits", "RBSP", usize::MAX, record.clone(), LONG_OUTPUT);
-                        self.add("limits", "RBSP", usize::MAX, record, 0);
-                    }
-                }
+                self.longest("RBSP", &with_bits(&v, vec![1; count]));
+            }
+            for count in [most, most + 1] {
+                let mut bits = vec![1; count];
+                bits[count - 1] = 0;
+                self.longest("RBSP, a zero at the end", &with_bits(&v, bits));
             }
             for zeros in [15, 16, 17, 1_000, 20_000] {
-                let mut bits = vec![0; zeros];
-                bits.push(1);
-                self.limit("zeros", &with_bits(&v, bits));
+                let mut bits = vec![0; zeros + 1];
+                bits[zeros] = 1;
+                self.limit("zeros", &with_bits(&v, bits.clone()));
+                bits.reverse();
+                self.limit("zeros at the end", &with_bits(&v, bits));
             }
+        }
+    }
+
+    // With just enough room and with a byte less, or with all room and with none.
+    fn longest(&mut self, way: &str, v: &VvcVps) {
+        let record = record_of(v);
+        let rooms = match written(&record) {
+            Some(unit) => [unit.len(), unit.len() - 1],
+            None => [LONG_OUTPUT, 0],
+        };
+        for room in rooms {
+            self.add("limits", way, usize::MAX, record.clone(), room);
         }
     }
 }

@@ -1,4 +1,5 @@
-// Records that are not well formed, and what the Rust's writer makes of each.
+// Records that are not well formed, and some that are, and what the Rust's writer makes of each.
+use crate::record::{record_of, written};
 use crate::show::{hex_of, unit_of};
 use bitstream::h266::{
     VvcCpbSchedule, VvcGeneralTimingHrd, VvcOlsTimingHrd, VvcOlsTimingHrdSublayer, VvcSublayerHrd, VvcVps,
@@ -68,6 +69,11 @@ fn with_length(vps: &mut VvcVps, bytes: usize) {
     vps.vps_extension_data = vec![1];
     let short = write_vps(vps).expect("a record that is written").len();
     vps.vps_extension_data = vec![1; 1 + 8 * (bytes - short)];
+}
+
+fn with_bits(vps: &mut VvcVps, flag: u8, bits: &[u8]) {
+    vps.vps_extension_flag = flag;
+    vps.vps_extension_data = bits.to_vec();
 }
 
 type Change = fn(&mut VvcVps);
@@ -146,6 +152,9 @@ pub fn answers() -> String {
         }),
         ("one layer: RBSP of 65,535 bytes (well formed)", one_layer(), |v| with_length(v, 65_535)),
         ("one layer: RBSP of 65,536 bytes", one_layer(), |v| with_length(v, 65_536)),
+        ("one layer: extension bit 0 (well formed)", one_layer(), |v| with_bits(v, 1, &[0])),
+        ("one layer: extension bits 1 0 (well formed)", one_layer(), |v| with_bits(v, 1, &[1, 0])),
+        ("one layer: extension bit 0 under vps_extension_flag 0", one_layer(), |v| with_bits(v, 0, &[0])),
     ];
     changes.into_iter().map(|(words, vps, change)| answer(words, vps, change)).collect()
 }
@@ -155,6 +164,8 @@ fn answer(words: &str, mut vps: VvcVps, change: Change) -> String {
     let same = write_vps_nal(&vps).expect("the record before its change is written");
     assert_eq!(parse_vps(&same).as_ref(), Ok(&vps), "the record before its change is read back");
     change(&mut vps);
+    let well_formed = written(&record_of(&vps)).is_some();
+    assert_eq!(well_formed, words.ends_with("(well formed)"), "the words say whether it is well formed: {words}");
     let unit = match write_vps_nal(&vps) {
         Err(error) => return format!("{words}: refused: {error:?}\n"),
         Ok(unit) => unit,

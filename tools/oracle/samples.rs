@@ -1,6 +1,7 @@
 // The units of samples/, made of the two units that the papers name by changing fields of the Rust's structure.
 use crate::definition_units::{D, U, timing, vps_of};
-use bitstream::h266::{VvcVps, write_vps_nal};
+use crate::extension_rule::write_unit;
+use bitstream::h266::VvcVps;
 use std::path::Path;
 
 // Writes the samples into a folder, and says how many there are.
@@ -10,7 +11,8 @@ pub fn write(folder: &str) -> std::io::Result<String> {
         ("one_layer.vps", unit(&vps_of(U))),
         ("three_layers.vps", three.clone()),
         ("timing.vps", unit(&with_timing())),
-        ("extension.vps", unit(&with_extension())),
+        ("extension.vps", unit(&with_extension(vec![1, 0, 1, 1]))),
+        ("extension_zero.vps", unit(&with_extension(vec![1, 0]))),
         // the end of the unit is lost
         ("damaged.vps", three[..three.len() - 4].to_vec()),
     ];
@@ -21,7 +23,7 @@ pub fn write(folder: &str) -> std::io::Result<String> {
 }
 
 fn unit(v: &VvcVps) -> Vec<u8> {
-    write_vps_nal(v).expect("the Rust writes the structure")
+    write_unit(v).expect("the structure is written")
 }
 
 // Each layer on the one below, with one buffer slot for both sets of several layers, 1920 by 1080 in 10 bits.
@@ -52,9 +54,9 @@ fn with_timing() -> VvcVps {
     v
 }
 
-fn with_extension() -> VvcVps {
+fn with_extension(bits: Vec<u8>) -> VvcVps {
     let mut v = vps_of(U);
     v.vps_extension_flag = 1;
-    v.vps_extension_data = vec![1, 0, 1, 1];
+    v.vps_extension_data = bits;
     v
 }

@@ -1,10 +1,10 @@
 // The list that crates/sections_replay replays: records, and for each the parts that section lookup is to give. Where the
-// sections of a well-formed record are comes from the lengths that the sections of the Rust's structure have one by one.
+// sections of a well-formed record are comes from the lengths that the sections of its structure have one by one.
 // That every other list, and every number over 8, gives the empty part at the end is a rule of this project.
 use crate::changed_records::changed;
 use crate::list::{List, put_number};
 use crate::random::Random;
-use crate::record::{record_of, section_lengths, structure_of, written};
+use crate::record::{self, record_of, section_lengths, structure_of, written};
 use crate::structures::{MODES, Maker, Mode};
 use std::collections::HashSet;
 
@@ -30,20 +30,38 @@ const TRAILER_EACH: usize = 6;
 
 pub fn list() -> List {
     let mut list = List::new(CONTENT);
+    for (name, records) in kinds() {
+        records.iter().for_each(|(record, well_formed)| case(&mut list, record, *well_formed));
+        list.end_of_kind(name);
+    }
+    list
+}
+
+// How many records are set aside, so that the second judge says whether they are well formed: those that are, and those
+// that are not.
+pub fn set_aside() -> String {
+    let all: Vec<Case> = kinds().into_iter().flat_map(|(_, records)| records).collect();
+    let count = |answer| all.iter().filter(|(list, good)| *good == answer && record::set_aside(list)).count();
+    format!("well formed: {}\nnot well formed: {}\n", count(true), count(false))
+}
+
+// A record, and whether it is well formed.
+type Case = (Vec<u32>, bool);
+
+fn kinds() -> Vec<(&'static str, Vec<Case>)> {
+    let mut kinds = Vec::new();
     let mut small = Vec::new();
     for mode in MODES {
         let records = records_of(mode);
-        records.iter().for_each(|record| case(&mut list, record, true));
-        list.end_of_kind(mode.name());
-        small.extend(records.into_iter().filter(|record| record.len() <= MOST_CHANGED));
+        small.extend(records.iter().filter(|record| record.len() <= MOST_CHANGED).cloned());
+        kinds.push((mode.name(), records.into_iter().map(|record| (record, true)).collect()));
     }
-    changed_records(&mut list, &small);
-    trailers(&mut list, &small);
-    for length in 0..=24 {
-        case(&mut list, &small[length][..length], false);
-    }
-    list.end_of_kind("short list");
-    list
+    let [good, broken] = changed_records(&small);
+    kinds.push(("other value", good.into_iter().map(|record| (record, true)).collect()));
+    kinds.push(("not well formed", broken.into_iter().map(|record| (record, false)).collect()));
+    kinds.push(("trailer", trailers(&small).into_iter().map(|record| (record, false)).collect()));
+    kinds.push(("short list", (0..=24).map(|length| (small[length][..length].to_vec(), false)).collect()));
+    kinds
 }
 
 fn records_of(mode: Mode) -> Vec<Vec<u32>> {
@@ -62,7 +80,7 @@ fn records_of(mode: Mode) -> Vec<Vec<u32>> {
 }
 
 // Copies with other numbers: those that are well formed all the same, and those that are not.
-fn changed_records(list: &mut List, small: &[Vec<u32>]) {
+fn changed_records(small: &[Vec<u32>]) -> [Vec<Vec<u32>>; 2] {
     let mut random = Random::new(SEED);
     let mut seen = HashSet::new();
     let mut kinds = [Vec::new(), Vec::new()];
@@ -74,31 +92,29 @@ fn changed_records(list: &mut List, small: &[Vec<u32>]) {
             kind.push(record);
         }
     }
-    for (records, name) in kinds.iter().zip(["other value", "not well formed"]) {
-        records.iter().for_each(|record| case(list, record, name == "other value"));
-        list.end_of_kind(name);
-    }
+    kinds
 }
 
 // Each number of the trailer one more, one less and 0, by which no other part may be found.
-fn trailers(list: &mut List, small: &[Vec<u32>]) {
+fn trailers(small: &[Vec<u32>]) -> Vec<Vec<u32>> {
+    let mut others = Vec::new();
     for record in small.iter().step_by(small.len() / TRAILER_EACH).take(TRAILER_EACH) {
         for i in record.len() - 8..record.len() {
             for value in [record[i] + 1, record[i] - 1, 0] {
                 let mut other = record.clone();
                 other[i] = value;
-                case(list, &other, false);
+                others.push(other);
             }
         }
     }
-    list.end_of_kind("trailer");
+    others
 }
 
 // A case: how many numbers the record has, how many parts are asked, the record's numbers, and the parts: a section's
 // number, the index of its first number, and how many there are.
 fn case(list: &mut List, record: &[u32], well_formed: bool) {
     let starts = starts_of(record);
-    assert_eq!(starts.is_some(), well_formed, "the Rust's answer is that of the kind");
+    assert_eq!(starts.is_some(), well_formed, "the answer is that of the kind");
     let mut content = Vec::new();
     for n in [record.len() as u32, ASKED.len() as u32].iter().chain(record) {
         put_number(&mut content, *n);
