@@ -1,5 +1,6 @@
-// A coverage-guided fuzz target over the static archive, with the Rust as judge in the same process. An input's first
-// byte chooses the lengths of the buffers, the rest is a unit; whatever differs ends the run.
+// A coverage-guided fuzz target over the static archive, with the Rust as judge in the same process, and the second judge
+// for extension bits. An input's first byte chooses the lengths of the buffers, the rest is a unit; whatever differs ends
+// the run. What was set aside is printed at the end, which is a failure if it was too little.
 #![no_main]
 mod traps;
 
@@ -11,9 +12,19 @@ use archive::writing::Writer;
 use judge::changed_records::changed;
 use judge::random::Random;
 use judge::record::Reading;
+use std::sync::{LazyLock, Mutex};
+
+static REPORT: LazyLock<Mutex<Report>> = LazyLock::new(Mutex::default);
+
+unsafe extern "C" {
+    fn atexit(function: extern "C" fn()) -> i32;
+    fn _exit(code: i32) -> !;
+}
 
 #[unsafe(no_mangle)]
 pub extern "C" fn LLVMFuzzerInitialize(_count: *mut i32, _words: *mut *mut *mut u8) -> i32 {
+    // The function lives as long as the program.
+    unsafe { atexit(say_set_aside) };
     if let Ok(file) = std::env::var("VPS_FUZZ_BLOCKS") {
         traps::set(&std::fs::read_to_string(file).expect("the list of blocks"));
     }
@@ -24,7 +35,7 @@ pub extern "C" fn LLVMFuzzerInitialize(_count: *mut i32, _words: *mut *mut *mut 
 pub extern "C" fn LLVMFuzzerTestOneInput(data: *const u8, size: usize) -> i32 {
     // The fuzzer lends so many bytes.
     let data = if size == 0 { &[][..] } else { unsafe { std::slice::from_raw_parts(data, size) } };
-    let mut report = Report::default();
+    let mut report = REPORT.lock().expect("one input after the other");
     if let Some((&first, unit)) = data.split_first() {
         compare(u64::from(first), unit, &mut report);
     }
@@ -32,6 +43,17 @@ pub extern "C" fn LLVMFuzzerTestOneInput(data: *const u8, size: usize) -> i32 {
         std::process::abort();
     }
     0
+}
+
+extern "C" fn say_set_aside() {
+    let report = REPORT.lock().expect("no input is compared at the end");
+    report.print_set_aside();
+    let few = report.few_set_aside();
+    few.iter().for_each(|words| println!("TOO FEW: {words}"));
+    if !few.is_empty() {
+        // Nothing is left to be done but to end with a failure.
+        unsafe { _exit(1) };
+    }
 }
 
 fn compare(seed: u64, unit: &[u8], report: &mut Report) {

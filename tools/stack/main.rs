@@ -5,7 +5,7 @@ use archive::cases::{cases, growth};
 use archive::sentences::MOST_SENTENCE;
 use bitstream::h266::{parse_vps, write_vps_nal};
 use judge::random::Random;
-use judge::record::{read, Reading};
+use judge::record::{read, structure_of, Reading};
 use judge::units::Units;
 use std::arch::asm;
 use std::hint::black_box;
@@ -117,7 +117,7 @@ impl Depths {
     }
 
     fn record(&mut self, unit: &[u8], record: &[u32], output: &mut [u8]) {
-        let vps = parse_vps(unit).expect("it is accepted");
+        let vps = structure_of(unit).expect("it is accepted");
         let (mut a, mut b) = (0, 0);
         self.call("vps_write", || {
             black_box(calls::write(record, output, &mut a));
