@@ -2,7 +2,7 @@
 // count, with the rules of this project for lengths and buffers (docs/DIFFERENCES.md).
 use crate::buffers::Guarded;
 use crate::calls;
-use crate::report::{shown, Answer, Report, SetAside};
+use crate::report::{shown, Answer, Report, Ruled};
 use bitstream::nal::ebsp_to_rbsp;
 use judge::extension_rule::Judges;
 use judge::random::Random;
@@ -48,9 +48,9 @@ impl Judged {
     fn count(&self, unit: &[u8], report: &mut Report) {
         if self.judges.set_aside() {
             let accepted = matches!(self.reading, Reading::Accepted { .. });
-            report.set_aside(if accepted { SetAside::UnitAccepted } else { SetAside::UnitRefused });
+            report.ruled(if accepted { Ruled::UnitAccepted } else { Ruled::UnitRefused });
         } else if self.judges.both_say() {
-            report.set_aside(SetAside::UnitOfBoth);
+            report.ruled(Ruled::UnitOfBoth);
         }
         if !self.judges.as_claimed() {
             report.difference(|| format!("the Rust and the rule of extension bits: {}", hex_of(unit)));

@@ -20,10 +20,10 @@ impl Answer {
     }
 }
 
-// What the second judge says, or both: units that the Rust refuses with 28 under extension flag 1, other units with
-// that flag, and lists whose extension ends in 0.
+// What the second judge has an answer for. Set aside are units that the Rust refuses with 28 under extension flag 1, and
+// lists whose extension ends in 0; of other units with that flag both judges say the same.
 #[derive(Clone, Copy, PartialEq, Eq, PartialOrd, Ord)]
-pub enum SetAside {
+pub enum Ruled {
     UnitAccepted,
     UnitRefused,
     UnitOfBoth,
@@ -31,30 +31,25 @@ pub enum SetAside {
     ListRefused,
 }
 
-impl SetAside {
-    const ALL: [SetAside; 5] = [
-        SetAside::UnitAccepted,
-        SetAside::UnitRefused,
-        SetAside::UnitOfBoth,
-        SetAside::ListWritten,
-        SetAside::ListRefused,
-    ];
+impl Ruled {
+    const ALL: [Ruled; 5] =
+        [Ruled::UnitAccepted, Ruled::UnitRefused, Ruled::UnitOfBoth, Ruled::ListWritten, Ruled::ListRefused];
 
     // The input and the answer.
     fn name(self) -> &'static str {
         match self {
-            SetAside::UnitAccepted => "unit, 28 by the Rust under extension flag 1 | accepted",
-            SetAside::UnitRefused => "unit, 28 by the Rust under extension flag 1 | refused 28",
-            SetAside::UnitOfBoth => "other unit with extension flag 1, not set aside | the Rust's",
-            SetAside::ListWritten => "list whose extension ends in 0 | written",
-            SetAside::ListRefused => "list whose extension ends in 0 | refused 31",
+            Ruled::UnitAccepted => "set aside: unit, 28 by the Rust under extension flag 1 | accepted",
+            Ruled::UnitRefused => "set aside: unit, 28 by the Rust under extension flag 1 | refused 28",
+            Ruled::UnitOfBoth => "not set aside: other unit with extension flag 1 | as the Rust's",
+            Ruled::ListWritten => "set aside: list whose extension ends in 0 | written",
+            Ruled::ListRefused => "set aside: list whose extension ends in 0 | refused 31",
         }
     }
 }
 
 #[derive(Default)]
 pub struct Report {
-    set_aside: BTreeMap<SetAside, usize>,
+    ruled: BTreeMap<Ruled, usize>,
     answers: BTreeMap<(&'static str, Answer), usize>,
     inputs: BTreeMap<(&'static str, &'static str), usize>,
     shapes: BTreeMap<&'static str, usize>,
@@ -84,8 +79,8 @@ impl Report {
     }
 
     // An input that the second judge has an answer for.
-    pub fn set_aside(&mut self, what: SetAside) {
-        *self.set_aside.entry(what).or_default() += 1;
+    pub fn ruled(&mut self, what: Ruled) {
+        *self.ruled.entry(what).or_default() += 1;
     }
 
     pub fn difference(&mut self, words: impl FnOnce() -> String) {
@@ -119,27 +114,27 @@ impl Report {
         for ((call, answer), count) in &self.answers {
             println!("| {call} | {} | {count} |", answer.name());
         }
-        self.print_set_aside();
+        self.print_ruled();
         let few = self.too_few();
         few.iter().for_each(|words| println!("TOO FEW: {words}"));
         println!("\ncalls {}, differences {}", self.answers.values().sum::<usize>(), self.differences);
         few.is_empty() && self.differences == 0
     }
 
-    // What was set aside, with the answer of the second judge to which the call was held.
-    pub fn print_set_aside(&self) {
-        println!("\n| Set aside | Answer by the rule | Count |\n|---|---|---|");
-        SetAside::ALL.iter().for_each(|what| println!("| {} | {} |", what.name(), self.count_set_aside(what)));
+    // What was set aside, and what else the second judge has an answer for.
+    pub fn print_ruled(&self) {
+        println!("\n| The second judge on | Answer | Count |\n|---|---|---|");
+        Ruled::ALL.iter().for_each(|what| println!("| {} | {} |", what.name(), self.count_ruled(what)));
     }
 
-    fn count_set_aside(&self, what: &SetAside) -> usize {
-        self.set_aside.get(what).copied().unwrap_or(0)
+    fn count_ruled(&self, what: &Ruled) -> usize {
+        self.ruled.get(what).copied().unwrap_or(0)
     }
 
-    // What was set aside too seldom.
-    pub fn few_set_aside(&self) -> Vec<String> {
-        let few = SetAside::ALL.iter().filter(|what| self.count_set_aside(what) < LEAST);
-        few.map(|what| format!("{}: {}", what.name(), self.count_set_aside(what))).collect()
+    // What the second judge had too seldom.
+    pub fn few_ruled(&self) -> Vec<String> {
+        let few = Ruled::ALL.iter().filter(|what| self.count_ruled(what) < LEAST);
+        few.map(|what| format!("{}: {}", what.name(), self.count_ruled(what))).collect()
     }
 
     fn too_few(&self) -> Vec<String> {
@@ -150,7 +145,7 @@ impl Report {
         let mut few: Vec<String> = short.map(|key| format!("{}, {}: {}", key.0, key.1.name(), count(key))).collect();
         let shown = |name| self.shapes.get(name).copied().unwrap_or(0);
         few.extend(SHAPES.iter().filter(|name| shown(*name) < LEAST).map(|name| format!("{name}: {}", shown(name))));
-        few.extend(self.few_set_aside());
+        few.extend(self.few_ruled());
         few
     }
 }

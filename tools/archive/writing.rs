@@ -3,7 +3,7 @@
 use crate::buffers::Guarded;
 use crate::calls;
 use crate::reading::around;
-use crate::report::{shown, Answer, Report, SetAside};
+use crate::report::{shown, Answer, Report, Ruled};
 use judge::random::Random;
 use judge::record::{set_aside, written, written_by_rust};
 use judge::show::hex_of;
@@ -65,7 +65,7 @@ impl Writer {
 // Counts a list whose extension ends in 0. The Rust writes none.
 fn count(list: &[u32], well_formed: bool, report: &mut Report) {
     if set_aside(list) {
-        report.set_aside(if well_formed { SetAside::ListWritten } else { SetAside::ListRefused });
+        report.ruled(if well_formed { Ruled::ListWritten } else { Ruled::ListRefused });
         if written_by_rust(list) {
             report.difference(|| format!("the Rust writes a list whose extension ends in 0: {}", shown(list)));
         }

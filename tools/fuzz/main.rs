@@ -47,8 +47,8 @@ pub extern "C" fn LLVMFuzzerTestOneInput(data: *const u8, size: usize) -> i32 {
 
 extern "C" fn say_set_aside() {
     let report = REPORT.lock().expect("no input is compared at the end");
-    report.print_set_aside();
-    let few = report.few_set_aside();
+    report.print_ruled();
+    let few = report.few_ruled();
     few.iter().for_each(|words| println!("TOO FEW: {words}"));
     if !few.is_empty() {
         // Nothing is left to be done but to end with a failure.

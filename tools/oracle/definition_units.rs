@@ -221,6 +221,7 @@ impl Records {
         }
         records.each_number("d-sublayers", &record_of(&sublayers(&d)));
         records.each_number("two-of-each", &record_of(&two_of_each(&d)));
+        records.extensions(&u);
         records.several_numbers(&u, &d);
         records
     }
@@ -307,27 +308,24 @@ impl Records {
         self.add(name, format!("({name} ++ {name})"), [record, record].concat());
     }
 
-    // What takes several numbers: extension bits, constraint bits, rows, slots.
+    fn extensions(&mut self, u: &VvcVps) {
+        let with_flag: [&[u8]; 6] = [&[1], &[0, 1], &[0], &[1, 0], &[2, 1], &[2]];
+        let without: [&[u8]; 2] = [&[1], &[0]];
+        for (flag, bits) in with_flag.map(|bits| (1, bits)).into_iter().chain(without.map(|bits| (0, bits))) {
+            let mut v = u.clone();
+            v.vps_extension_flag = flag;
+            v.vps_extension_data = bits.to_vec();
+            let record = record_of(&v);
+            self.add("extension flag and bits", list(&record), record);
+        }
+    }
+
+    // What takes several numbers: constraint bits, rows, slots.
     fn several_numbers(&mut self, u: &VvcVps, d: &VvcVps) {
         let mut add = |about: &str, v: &VvcVps| {
             let record = record_of(v);
             self.add(about, list(&record), record);
         };
-        for (flag, bits) in [
-            (1, vec![1]),
-            (1, vec![0, 1]),
-            (1, vec![0]),
-            (1, vec![1, 0]),
-            (1, vec![2, 1]),
-            (1, vec![2]),
-            (0, vec![1]),
-            (0, vec![0]),
-        ] {
-            let mut v = u.clone();
-            v.vps_extension_flag = flag;
-            v.vps_extension_data = bits;
-            add("extension flag and bits", &v);
-        }
         for (said, there) in [(0, 0), (1, 1), (5, 5), (6, 6), (0, 1), (1, 0), (1, 6), (5, 6), (6, 5), (255, 0)] {
             let mut v = u.clone();
             v.ptls[0].ptl.gci_present_flag = true;
