@@ -5,16 +5,18 @@ use mathlib.Core.List.{List, [], _∷_, _++_}
 use mathlib.Core.Bool.{Bool, true, false, cond}
 use native.Mathlib.Nat.{two-pow-succ, zero-div, one-mul}
 use native.Mathlib.Omega.{arith}
-use borrow.Author.Tests.{ltb-true, ltb-false, lt-ltb, le-ltb}
-use lib.Count.{ones, leadingZeros, leading-of-zero, leading-top}
+use borrow.Author.Tests.{ltb-true, ltb-false, lt-ltb, le-ltb, le-leb, lt-leb}
+use lib.Count.{leadingZeros, leading-of-zero, leading-top}
 use lib.Dec.{ltb, lit<}
-use lib.ListN.{length, getD, replicate, length-replicate}
+use lib.ListN.{length, replicate, length-replicate}
 use lib.Pow.{high, low, pow-pos, pow-mono, mod-pow-add, shl-exact, shl-lt, shl-shr, shr-shr}
+use Rattle.refusals.specs.Answer.Answer.{success}
 use Rattle.refusals.specs.Number.{code-too-long}
-use Rattle.bits.specs.Bits.{bitAt, fieldAt, fieldWidth, onesAt, toBoundary, bitsOf}
+use Rattle.bits.specs.Bits.{bitAt, fieldAt, fieldWidth, onesFrom, toBoundary, bitsOf}
+use Rattle.bits.specs.Reading.{moreData, askMoreData}
 use Rattle.bits.specs.Code.{zerosAt, codeBehind, codeAt}
 use Rattle.bits.specs.Code.Taken.{taken, refused}
-use Rattle.bits.specs.FieldLaws.{bit-lt, bit-past-end, one-inside, field-lt, field-one, field-split, field-high, field-low, field-byte, ones-split, ones-of-field, BitsAt, bits-right, bits-field, bits-of-zero}
+use Rattle.bits.specs.FieldLaws.{bit-lt, one-inside, field-lt, field-one, field-split, field-high, field-low, BitsAt, bits-right, bits-field, bits-of-zero}
 use Rattle.bits.specs.CodeLaws.{zeros-to-end, zeros-past-end, zeros-all, code-at}
 
 -- ── Fields ────────────────────────────────────────────────────────────
@@ -177,27 +179,17 @@ behind-stop at = omega arith
 pub bit-one : (s : List ℕ) (at : ℕ) → (bitAt s at ≡ 0 → ⊥) → bitAt s at ≡ 1
 bit-one s at n = omega (arith, bit-lt s at)
 
--- ── Ones ──────────────────────────────────────────────────────────────
--- the ones of more bits are no fewer
-pub ones-grow : (s : List ℕ) (at m n : ℕ) → m ≤ n → onesAt s at m ≤ onesAt s at n
-ones-grow s at m n h = let e : m + (n - m) ≡ n = omega arith in omega (arith, rw e at (ones-split s at m (n - m)))
+-- ── More data ─────────────────────────────────────────────────────────
+-- by the ones behind the place's bit
+pub more-yes : (s : List ℕ) (at : ℕ) → at < 2 ^ 63 → 1 ≤ onesFrom s (at + 1) → success true ≡ askMoreData s at
+unfolding askMoreData moreData
+more-yes s at l h = rw (lt-ltb at (2 ^ 63) l, le-leb 1 (onesFrom s (at + 1)) h) refl
 
--- past the end there are none
-ones-past-end : (s : List ℕ) (at n : ℕ) → 8 * length s ≤ at → onesAt s at n ≡ 0
-unfolding onesAt
-ones-past-end s at zero h = refl
-ones-past-end s at (suc n) h = omega (arith, ones-past-end s at n h, bit-past-end s (at + n) (omega arith))
+pub more-no : (s : List ℕ) (at : ℕ) → at < 2 ^ 63 → onesFrom s (at + 1) ≡ 0 → success false ≡ askMoreData s at
+unfolding askMoreData moreData
+more-no s at l h = rw (lt-ltb at (2 ^ 63) l, lt-leb 1 (onesFrom s (at + 1)) (omega arith)) refl
 
--- so the ones of bits that reach the end are all that remain
-pub ones-to-end : (s : List ℕ) (at n : ℕ) → 8 * length s ≤ at + n → onesAt s at n ≡ onesAt s at (8 * length s - at)
-ones-to-end s at n h =
-    let d : ℕ = 8 * length s - at in
-    let e : d + (n - d) ≡ n = omega arith in
-    omega (arith, rw e at (ones-split s at d (n - d)), ones-past-end s (at + d) (n - d) (omega arith))
-
--- the bits to the end of the byte at i, and then another byte
-pub ones-of-byte : (s : List ℕ) (at i : ℕ) → getD s i 0 < 256 → at ≤ 8 * i → onesAt s at (8 * (i + 1) - at) ≡ onesAt s at (8 * i - at) + ones (getD s i 0)
-ones-of-byte s at i h l =
-    let e : 8 * (i + 1) - at ≡ 8 * i - at + 8 = omega arith in
-    let p : at + (8 * i - at) ≡ 8 * i = omega arith in
-    rw (e, ones-split s at (8 * i - at) 8, p, ones-of-field s (8 * i) 8, field-byte s i h) refl
+-- a field that is not 0
+pub not-zero : (n : ℕ) → (n ≡ 0 → ⊥) → 0 < n
+not-zero zero h = absurd (h refl)
+not-zero (suc n) h = omega arith

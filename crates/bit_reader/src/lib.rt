@@ -170,7 +170,7 @@ impl ReadPlace {
         if at % 8 == 0 { Asked::Yes } else { Asked::No }
     }
 
-    // Whether two one-bits remain.
+    // Whether a one-bit stands behind the place's bit.
     pub fn more_rbsp_data(self, bytes: &[u8]) -> Asked
         ensures { λ r. ⌜ askedAnswer r ≡ askMoreData (now (bytes .entry)) (self .«bit_pos») ⌝ }
     {
@@ -178,17 +178,17 @@ impl ReadPlace {
         if ReadPlace::LIMIT <= at {
             return Asked::Refused(NOT_WELL_FORMED);
         }
-        let begun = field_at(bytes, at, (8 - at % 8) as u32);
-        let mut ones = u32::count_ones(begun);
+        if field_at(bytes, at + 1, (7 - at % 8) as u32) != 0 {
+            return Asked::Yes;
+        }
         let mut i = at / 8 + 1;
         while i < bytes.len() {
-            if 2 <= ones {
+            if bytes[i] != 0 {
                 return Asked::Yes;
             }
-            ones += u32::count_ones(bytes[i] as u32);
             i += 1;
         }
-        if 2 <= ones { Asked::Yes } else { Asked::No }
+        Asked::No
     }
 
     // The stop bit and the zeros to the boundary.

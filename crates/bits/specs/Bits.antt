@@ -3,7 +3,7 @@ use Prim.Native.Nat.{ℕ, zero, suc, _+_, _*_, _-_, _/_, _%_, _^_}
 use mathlib.Core.List.{List, [], _∷_, _++_}
 use mathlib.Core.Bool.{cond}
 use lib.Dec.{ltb}
-use lib.ListN.{getD, set}
+use lib.ListN.{length, getD, set}
 
 -- the weight of the bit at a place within its byte
 abbrev pub weight : ℕ → ℕ
@@ -26,6 +26,10 @@ fieldWidth w = cond (ltb w 32) w 32
 unfoldable pub onesAt : List ℕ → ℕ → ℕ → ℕ
 onesAt s at zero = 0
 onesAt s at (suc n) = onesAt s at n + bitAt s (at + n)
+
+-- and how many of all from a place on
+abbrev pub onesFrom : List ℕ → ℕ → ℕ
+onesFrom s at = onesAt s at (8 * length s - at)
 
 -- how many bits there are to the next byte boundary: none at one
 abbrev pub toBoundary : ℕ → ℕ

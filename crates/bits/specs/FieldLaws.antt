@@ -111,6 +111,12 @@ ones-split s at a (suc b) =
     let i : at + (a + b) ≡ at + a + b = omega arith in
     rw (e, onesAt) (rw (ones-split s at a b, i) (omega arith))
 
+pub ones-first : (s : List ℕ) (at n : ℕ) → onesAt s at (suc n) ≡ bitAt s at + onesAt s (at + 1) n
+ones-first s at n =
+    let e : suc n ≡ 1 + n = omega arith in
+    let o : onesAt s at 1 ≡ bitAt s at = unfold onesAt in rw add-zero (omega arith) in
+    ap (onesAt s at) e ∙ ones-split s at 1 n ∙ ap (λ (k : ℕ). k + onesAt s (at + 1) n) o
+
 -- ── Bits that stand at a place ────────────────────────────────────────
 abbrev pub BitsAt : List ℕ → ℕ → List ℕ → Type 0
 BitsAt s at [] = Unit {0}

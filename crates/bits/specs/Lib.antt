@@ -3,6 +3,7 @@ pub mod Code
 pub mod Reading
 pub mod Writing
 pub mod FieldLaws
+pub mod OneLaws
 pub mod CodeLaws
 pub mod ByteLaws
 pub mod WriteLaws

@@ -1,5 +1,5 @@
 -- What each step of the bit reader gives, for every place and width. A place from 2^63 on and a width over 32 are refused before all else.
-use Prim.Native.Nat.{ℕ, _+_, _*_, _-_, _%_, _^_}
+use Prim.Native.Nat.{ℕ, _+_, _*_, _%_, _^_}
 use mathlib.Core.List.{List}
 use mathlib.Core.Bool.{Bool, cond, _&&_}
 use lib.Dec.{leb, ltb, eqb}
@@ -7,7 +7,7 @@ use lib.ListN.{length}
 use Rattle.refusals.specs.Answer.{Answer}
 use Rattle.refusals.specs.Answer.Answer.{success, refusal}
 use Rattle.refusals.specs.Number.{not-well-formed, stop-bit-missing, stop-bit-zero, alignment-bit-one}
-use Rattle.bits.specs.Bits.{bitAt, fieldAt, onesAt, toBoundary}
+use Rattle.bits.specs.Bits.{bitAt, fieldAt, onesFrom, toBoundary}
 use Rattle.bits.specs.Code.{Taken, codeAt}
 use Rattle.bits.specs.Code.Taken.{taken, refused}
 
@@ -30,9 +30,9 @@ readAlignment at = cond (placeGood at) (success (at + toBoundary at)) (refusal n
 unfoldable pub askAligned : ℕ → Answer Bool
 askAligned at = cond (placeGood at) (success (eqb (at % 8) 0)) (refusal not-well-formed)
 
--- more_rbsp_data() as the port has it: two one-bits remain
+-- more_rbsp_data(): a one-bit stands behind the place's bit, so that the place lies before the last one-bit, the stop bit
 unfoldable pub moreData : List ℕ → ℕ → Bool
-moreData s at = leb 2 (onesAt s at (8 * length s - at))
+moreData s at = leb 1 (onesFrom s (at + 1))
 
 unfoldable pub askMoreData : List ℕ → ℕ → Answer Bool
 askMoreData s at = cond (placeGood at) (success (moreData s at)) (refusal not-well-formed)

@@ -9,7 +9,7 @@ ghost use Rattle.read_steps.specs.Fits.{limit};
 use read_steps::Cursor;
 use record_parts::Record;
 
-// How many bits are read from a place on while more_rbsp_data(): those up to the last one-bit but one, sought from the end.
+// How many bits are read from a place on while more_rbsp_data(): those before the last one-bit, sought from the end.
 pub fn data_bits(bytes: &[u8], at: usize) -> usize
     ensures { λ r. ⌜ (length (now (bytes .entry)) ≤ most-rbsp-bytes → r ≡ dataBits (now (bytes .entry)) at (8 * length (now (bytes .entry)) - at)) ⌝ }
 {
@@ -17,14 +17,11 @@ pub fn data_bits(bytes: &[u8], at: usize) -> usize
         return 0;
     }
     let mut i = bytes.len() * 8;
-    let mut ones = 0;
     while at < i {
-        let bit = bit_fields::bit_at(bytes, i - 1);
-        if 1 < ones + bit {
-            return i - at;
+        if bit_fields::bit_at(bytes, i - 1) == 1 {
+            return i - 1 - at;
         }
-        ones = ones + bit;
-        i = i - 1;
+        i -= 1;
     }
     0
 }

@@ -3,11 +3,11 @@ use Prim.Native.Nat.{ℕ, zero, suc, _+_, _*_, _-_, _≤_, _<_}
 use mathlib.Core.Path.{_≡_, refl, sym, ap, _∙_, subst}
 use mathlib.Core.List.{List, [], _∷_, _++_, append-nil}
 use mathlib.Core.Bool.{Bool, cond}
-use native.Mathlib.Nat.{add-zero, zero-mul, suc-mul}
+use native.Mathlib.Nat.{zero-mul, suc-mul}
 use native.Mathlib.Omega.{arith}
 use borrow.Author.Tests.{lt-ltb}
-use Rattle.bits.specs.Bits.{bitAt, fieldAt, fieldWidth, onesAt}
-use Rattle.bits.specs.FieldLaws.{field-one, ones-split}
+use Rattle.bits.specs.Bits.{fieldAt, fieldWidth, onesAt}
+use Rattle.bits.specs.FieldLaws.{field-one, ones-first}
 use Rattle.vps_definition.specs.Syntax.{Syntax, _>>=_, Token, keeping, Outcome, run}
 use Rattle.vps_definition.specs.Syntax.Syntax.{keep, done}
 use Rattle.vps_definition.specs.Syntax.Token.{number}
@@ -136,13 +136,9 @@ sum-last [] v = omega arith
 sum-last (u ∷ l) v = omega (arith, sum-last l v)
 
 pub sum-flags : (s : List ℕ) (at n : ℕ) → sum (fallingAt s at n 1) ≡ onesAt s at n
-unfolding fallingAt sum onesAt
-sum-flags s at zero = refl
-sum-flags s at (suc n) =
-    let e : onesAt s at (1 + n) ≡ onesAt s at 1 + onesAt s (at + 1) n = ones-split s at 1 n in
-    let i : suc n ≡ 1 + n = omega arith in
-    let o : onesAt s at 1 ≡ bitAt s at = rw (add-zero at) (omega arith) in
-    sum-last (fallingAt s (at + 1) n 1) (fieldAt s at 1) ∙ omega (arith, sum-flags s (at + 1) n, field-one s at, ap (onesAt s at) i)
+unfolding fallingAt sum
+sum-flags s at zero = unfold onesAt in refl
+sum-flags s at (suc n) = sum-last (fallingAt s (at + 1) n 1) (fieldAt s at 1) ∙ omega (arith, sum-flags s (at + 1) n, field-one s at, ones-first s at n)
 
 -- as many fields as another number says, and then what doesn't ask for them
 pub levels-as : {s : List ℕ} {c c₁ c₂ : Cursor} {n m : ℕ} (w : ℕ) {l : List ℕ} (f : Syntax (Unit {0})) {a : Unit {0}} {rec rec₁ rec₂ : List ℕ} → n ≡ m → Meets (reversed n w) s c l c₁ rec rec₁

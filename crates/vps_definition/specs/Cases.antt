@@ -58,7 +58,7 @@ reply (multi row) = count (numMultiLayerOlss 3 chain (chosen (row ∷ [])))
 reply (included row) = count (numLayersInOls 3 chain (chosen (row ∷ [])) 1)
 
 -- the unit U with another last byte
-unit : ℕ → List ℕ
+unfoldable pub unit : ℕ → List ℕ
 unit z = 0 ∷ 0x71 ∷ 0x10 ∷ 0 ∷ 0 ∷ 3 ∷ 2 ∷ 0x33 ∷ 0 ∷ 0 ∷ z ∷ []
 
 -- U's record with an extension flag, an extension section and a total length
@@ -91,7 +91,7 @@ table =
     ∷ case (read (unit 0x00)) (no 28)
     ∷ case (read (unit 0x41)) (no 29)
     ∷ case (read (unit 0xe0)) (vps-record (recordU 1 (1 ∷ 1 ∷ []) 39) 64)
-    ∷ case (read (unit 0xd0)) (no 28)
+    ∷ case (read (unit 0xd0)) (vps-record (recordU 1 (2 ∷ 1 ∷ 0 ∷ []) 40) 64)
     -- P13 to P15, and a lone 00
     ∷ case (read (0 ∷ 0x71 ∷ [])) (no 27)
     ∷ case (read (0 ∷ 0x79 ∷ [])) (no 2)
@@ -99,6 +99,12 @@ table =
     ∷ case (read (0 ∷ [])) (no 1)
     -- U's record is written as U
     ∷ case (written (recordU 0 (0 ∷ []) 38)) (bytes (unit 0x40))
+    -- with extension bits 1; 1 0; 0 alone; 1 0 0; and none under flag 1
+    ∷ case (written (recordU 1 (1 ∷ 1 ∷ []) 39)) (bytes (unit 0xe0))
+    ∷ case (written (recordU 1 (2 ∷ 1 ∷ 0 ∷ []) 40)) (bytes (unit 0xd0))
+    ∷ case (written (recordU 1 (1 ∷ 0 ∷ []) 39)) (bytes (unit 0xa0))
+    ∷ case (written (recordU 1 (3 ∷ 1 ∷ 0 ∷ 0 ∷ []) 41)) (bytes (unit 0xc8))
+    ∷ case (written (recordU 1 (0 ∷ []) 38)) (bytes (unit 0xc0))
     -- rows of layers 0 to 2
     ∷ case (multi (0 ∷ 0 ∷ 1 ∷ [])) (count 1)
     ∷ case (included (0 ∷ 0 ∷ 1 ∷ [])) (count 3)
@@ -160,8 +166,20 @@ table =
     ∷ case (read (0 ∷ 0x71 ∷ 0x10 ∷ 0xc0 ∷ 0 ∷ 0x48 ∷ 0x44 ∷ 0x19 ∷ 0 ∷ 0x10 ∷ 2 ∷ 0x33 ∷ 0 ∷ 0 ∷ 0x33 ∷ 0 ∷ 0xa5 ∷ 0x5f ∷ 0xe6 ∷ 0xa5 ∷ 0x39 ∷ 0xc0 ∷ 0 ∷ 0 ∷ 3 ∷ 0 ∷ 0x40 ∷ 0 ∷ 0 ∷ 0x0c ∷ 0x84 ∷ 0x0e ∷ 0x90 ∷ [])) (no 26)
     -- nothing left behind the timing flag
     ∷ case (read (0 ∷ 0x71 ∷ 0x10 ∷ 0x40 ∷ 0 ∷ 0x48 ∷ 0 ∷ 2 ∷ 0x33 ∷ 0 ∷ 0 ∷ 0xfc ∷ [])) (no 27)
-    -- an extension without bits, and the stop bit elsewhere
-    ∷ case (read (0 ∷ 0x71 ∷ 0x10 ∷ 0 ∷ 0 ∷ 3 ∷ 2 ∷ 0x33 ∷ 0 ∷ 0 ∷ 0xc0 ∷ 0x80 ∷ [])) (no 28)
+    -- the extension flag as the RBSP's last bit, behind the indices 0, 1, 1
+    ∷ case (read (0 ∷ 0x71 ∷ 0x10 ∷ 0x84 ∷ 0 ∷ 0x42 ∷ 0x80 ∷ 0x80 ∷ 2 ∷ 0x33 ∷ 0 ∷ 0 ∷ 0x33 ∷ 0 ∷ 0xa5 ∷ [])) (no 27)
+    -- nothing but zeros behind the extension flag, in its byte and in a further one
+    ∷ case (read (unit 0x80)) (no 28)
+    ∷ case (read (unit 0x80 ++ (0 ∷ []))) (no 28)
+    -- one one-bit behind the flag, the stop bit
+    ∷ case (read (unit 0xc0)) (vps-record (recordU 1 (0 ∷ []) 38) 64)
+    -- the extension bit 0 alone, and bits that end in 00
+    ∷ case (read (unit 0xa0)) (vps-record (recordU 1 (1 ∷ 0 ∷ []) 39) 64)
+    ∷ case (read (unit 0xc8)) (vps-record (recordU 1 (3 ∷ 1 ∷ 0 ∷ 0 ∷ []) 41) 64)
+    -- ones, and whole zero bytes behind them: the last one is the stop bit
+    ∷ case (read (unit 0xff ++ (0 ∷ 0 ∷ []))) (vps-record (recordU 1 (6 ∷ 1 ∷ 1 ∷ 1 ∷ 1 ∷ 1 ∷ 1 ∷ []) 44) 64)
+    -- a one and zeros, up to the stop bit in the next byte
+    ∷ case (read (unit 0xc0 ++ (0x80 ∷ []))) (vps-record (recordU 1 (7 ∷ 1 ∷ 0 ∷ 0 ∷ 0 ∷ 0 ∷ 0 ∷ 0 ∷ []) 45) 72)
     -- an extension to the end of the RBSP
     ∷ case (read (0 ∷ 0x71 ∷ 0x10 ∷ 0 ∷ 0 ∷ 3 ∷ 2 ∷ 0x33 ∷ 0 ∷ 0 ∷ 0xc0 ∷ 0xff ∷ [])) (vps-record (1 ∷ 1 ∷ 0 ∷ 1 ∷ 1 ∷ 1 ∷ 2 ∷ 0 ∷ 1 ∷ 0 ∷ 1 ∷ 0 ∷ 0 ∷ 1 ∷ 1 ∷ 0 ∷ 1 ∷ 0 ∷ 51 ∷ 0 ∷ 0 ∷ 0 ∷ 0 ∷ 0 ∷ 1 ∷ 0 ∷ 0 ∷ 0 ∷ 0 ∷ 14 ∷ 1 ∷ 0 ∷ 0 ∷ 0 ∷ 0 ∷ 0 ∷ 0 ∷ 1 ∷ 1 ∷ 1 ∷ 1 ∷ 1 ∷ 1 ∷ 1 ∷ 9 ∷ 12 ∷ 13 ∷ 24 ∷ 26 ∷ 28 ∷ 29 ∷ 52 ∷ []) 72)
     -- other header bytes of a VPS
@@ -202,8 +220,10 @@ table =
     ∷ case (written (2 ∷ 1 ∷ 0 ∷ 1 ∷ 0 ∷ 0 ∷ 0 ∷ 0 ∷ 0 ∷ 0 ∷ 1 ∷ 0 ∷ 1 ∷ 0 ∷ 0 ∷ 0 ∷ 1 ∷ 0 ∷ 1 ∷ 1 ∷ 0 ∷ 1 ∷ 0 ∷ 51 ∷ 0 ∷ 0 ∷ 0 ∷ 0 ∷ 0 ∷ 2 ∷ 0 ∷ 0 ∷ 1 ∷ 0 ∷ 0 ∷ 0 ∷ 0 ∷ 1 ∷ 0 ∷ 0 ∷ 0 ∷ 0 ∷ 0 ∷ 0 ∷ 0 ∷ 9 ∷ 17 ∷ 18 ∷ 29 ∷ 32 ∷ 43 ∷ 44 ∷ 53 ∷ [])) (no 31)
     -- buffering 16
     ∷ case (written (2 ∷ 1 ∷ 0 ∷ 1 ∷ 0 ∷ 0 ∷ 0 ∷ 0 ∷ 0 ∷ 0 ∷ 1 ∷ 0 ∷ 1 ∷ 0 ∷ 0 ∷ 1 ∷ 1 ∷ 0 ∷ 1 ∷ 1 ∷ 0 ∷ 1 ∷ 0 ∷ 51 ∷ 0 ∷ 0 ∷ 0 ∷ 0 ∷ 0 ∷ 2 ∷ 0 ∷ 0 ∷ 1 ∷ 0 ∷ 16 ∷ 0 ∷ 0 ∷ 1 ∷ 0 ∷ 0 ∷ 0 ∷ 0 ∷ 0 ∷ 0 ∷ 0 ∷ 9 ∷ 17 ∷ 18 ∷ 29 ∷ 32 ∷ 43 ∷ 44 ∷ 53 ∷ [])) (no 31)
-    -- extension bits that end in 0
-    ∷ case (written (1 ∷ 1 ∷ 0 ∷ 1 ∷ 1 ∷ 1 ∷ 2 ∷ 0 ∷ 1 ∷ 0 ∷ 1 ∷ 0 ∷ 0 ∷ 1 ∷ 1 ∷ 0 ∷ 1 ∷ 0 ∷ 51 ∷ 0 ∷ 0 ∷ 0 ∷ 0 ∷ 0 ∷ 1 ∷ 0 ∷ 0 ∷ 0 ∷ 0 ∷ 2 ∷ 1 ∷ 0 ∷ 9 ∷ 12 ∷ 13 ∷ 24 ∷ 26 ∷ 28 ∷ 29 ∷ 40 ∷ [])) (no 31)
+    -- extension bits under flag 0
+    ∷ case (written (recordU 0 (1 ∷ 0 ∷ []) 39)) (no 31)
+    -- an extension bit of 2
+    ∷ case (written (recordU 1 (2 ∷ 1 ∷ 2 ∷ []) 40)) (no 31)
     -- a wrong total
     ∷ case (written (1 ∷ 1 ∷ 0 ∷ 1 ∷ 1 ∷ 1 ∷ 2 ∷ 0 ∷ 0 ∷ 0 ∷ 1 ∷ 0 ∷ 0 ∷ 1 ∷ 1 ∷ 0 ∷ 1 ∷ 0 ∷ 51 ∷ 0 ∷ 0 ∷ 0 ∷ 0 ∷ 0 ∷ 1 ∷ 0 ∷ 0 ∷ 0 ∷ 0 ∷ 0 ∷ 9 ∷ 12 ∷ 13 ∷ 24 ∷ 26 ∷ 28 ∷ 29 ∷ 39 ∷ [])) (no 31)
     -- a number more

@@ -8,6 +8,7 @@ use Rattle.vps_definition.specs.OutputLayerSets.{Sets}
 use Rattle.vps_definition.specs.OutputLayerSets.Sets.{each-layer, up-to, chosen}
 use Rattle.vps_definition.specs.DpbParameters.{sublayers}
 use Rattle.vps_definition.specs.Record.{startOf}
+use Rattle.vps_definition.specs.Writing.{extensionOf}
 
 -- the record from section k on
 unfoldable pub fromSection : List ℕ → ℕ → List ℕ
@@ -95,3 +96,7 @@ timingCount r = getD (fromSection r 6) 13 0
 -- the last numbers of the section, one for each multi-layer set
 unfoldable pub timingIndices : List ℕ → List ℕ
 timingIndices r = take (multiCount r) (drop (startOf r 7 - multiCount r) r)
+
+-- ── Extension ─────────────────────────────────────────────────────────
+unfoldable pub extensionIn : List ℕ → List ℕ
+extensionIn r = extensionOf (fromSection r 7)

@@ -14,11 +14,11 @@ use Rattle.vps_definition.specs.TimingHrd.{general-timing-hrd, du-values
 use Rattle.vps_definition.specs.Vps.{headerUnder, direct-reference, dependent-layer, independent-layer, layer, layers-section, output-flag, row, rows-section, no-rows, sets-section, slotAt, slot-number-if, ptl-head, ptl-slot, ptl-section, ols-section, multi-layer-sections, single-layer-sections, buffer-sections, vpsUnder}
 use Rattle.vps_definition.specs.Record.{bodyOf, recordOf, startOf, endOf}
 use Rattle.vps_definition.specs.Reading.{bitsAt, dataBits, extensionBits, ended, closed, readRbspUnder, limitedBy, unitBy}
-use Rattle.vps_definition.specs.Writing.{allFlags, endsInOne, extensionGood, extensionOf, rbspOf, unitOf, limited, partsGood, finished, writeRecordUnder, wellFormedUnder}
+use Rattle.vps_definition.specs.Writing.{allFlags, extensionGood, extensionOf, rbspOf, unitOf, limited, partsGood, finished, writeRecordUnder, wellFormedUnder}
 use Rattle.vps_definition.specs.Lookup.{sectionStart, sectionEnd, sectionOf}
-use Rattle.vps_definition.specs.Layout.{fromSection, entryLength, idsFrom, layerIds, ptlCount, setCount, ptlIndices, dpbCount, behindSlots, dpbEntries, multiCount, fifths, dpbIndices, timingFlag, timingCount, timingIndices}
+use Rattle.vps_definition.specs.Layout.{fromSection, entryLength, idsFrom, layerIds, ptlCount, setCount, ptlIndices, dpbCount, behindSlots, dpbEntries, multiCount, fifths, dpbIndices, timingFlag, timingCount, timingIndices, extensionIn}
 use Rattle.vps_definition.specs.Views.{headerOf, layersOf, setsReadOf, refsOf, setsOf, layerInSet, slotOf, timingNumbers, hrdOf, scheduleLength, schedulesLength, sublayerLength, behindEntry, again, timingEntry, sublayerCount, sublayerAt, nalScheduleAt, vclScheduleAt}
 
 unfoldable pub opened : Unit {0}
-unfolding onesIn leadingZeros unstuff stuffBehind stuff bitAt fieldAt onesAt bitsOf pack zerosAt codeBehind codeAt codeOf readField readCode moreData trailingAt _>>=_ numbers starts keeping run putting emit skim look u u-minus1 ue ue-minus1 inferred u-if ue-if general general-if check ruled nothing when aligned keeps loop repeat sum anyBelow countBelow withReached reachesIn reaches included inSet totalNumOlss numLayersInOls numMultiLayerOlss falling reversed ahead numberOf constraint-bit constraints constraints-if general-constraints-info profile-and-tier sub-profile sub-profiles profile-tier-level dpb-sublayer per-sublayer index ols-dpb dpb-section general-timing-hrd du-values schedule sublayer-hrd timing-sublayer timing-section headerUnder direct-reference dependent-layer independent-layer layer layers-section output-flag row rows-section no-rows sets-section slotAt slot-number-if ptl-head ptl-slot ptl-section ols-section multi-layer-sections single-layer-sections buffer-sections vpsUnder bodyOf recordOf startOf endOf bitsAt dataBits extensionBits ended closed readRbspUnder limitedBy unitBy same allFlags endsInOne extensionGood extensionOf rbspOf unitOf limited partsGood finished writeRecordUnder wellFormedUnder sectionStart sectionEnd sectionOf fromSection entryLength idsFrom layerIds ptlCount setCount ptlIndices dpbCount behindSlots dpbEntries multiCount fifths dpbIndices timingFlag timingCount timingIndices headerOf layersOf setsReadOf refsOf setsOf layerInSet slotOf timingNumbers hrdOf scheduleLength schedulesLength sublayerLength behindEntry again timingEntry sublayerCount sublayerAt nalScheduleAt vclScheduleAt
+unfolding onesIn leadingZeros unstuff stuffBehind stuff bitAt fieldAt onesAt bitsOf pack zerosAt codeBehind codeAt codeOf readField readCode moreData trailingAt _>>=_ numbers starts keeping run putting emit skim look u u-minus1 ue ue-minus1 inferred u-if ue-if general general-if check ruled nothing when aligned keeps loop repeat sum anyBelow countBelow withReached reachesIn reaches included inSet totalNumOlss numLayersInOls numMultiLayerOlss falling reversed ahead numberOf constraint-bit constraints constraints-if general-constraints-info profile-and-tier sub-profile sub-profiles profile-tier-level dpb-sublayer per-sublayer index ols-dpb dpb-section general-timing-hrd du-values schedule sublayer-hrd timing-sublayer timing-section headerUnder direct-reference dependent-layer independent-layer layer layers-section output-flag row rows-section no-rows sets-section slotAt slot-number-if ptl-head ptl-slot ptl-section ols-section multi-layer-sections single-layer-sections buffer-sections vpsUnder bodyOf recordOf startOf endOf bitsAt dataBits extensionBits ended closed readRbspUnder limitedBy unitBy same allFlags extensionGood extensionOf rbspOf unitOf limited partsGood finished writeRecordUnder wellFormedUnder sectionStart sectionEnd sectionOf fromSection entryLength idsFrom layerIds ptlCount setCount ptlIndices dpbCount behindSlots dpbEntries multiCount fifths dpbIndices timingFlag timingCount timingIndices extensionIn headerOf layersOf setsReadOf refsOf setsOf layerInSet slotOf timingNumbers hrdOf scheduleLength schedulesLength sublayerLength behindEntry again timingEntry sublayerCount sublayerAt nalScheduleAt vclScheduleAt
 opened = tt

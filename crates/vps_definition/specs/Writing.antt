@@ -1,5 +1,5 @@
 -- Writing a record: well formed or not, and the unit's bytes.
-use Prim.Native.Nat.{ℕ, zero, suc, _+_}
+use Prim.Native.Nat.{ℕ, _+_}
 use mathlib.Core.List.{List, [], _∷_, _++_}
 use mathlib.Core.Bool.{Bool, true, false, _&&_, _||_}
 use lib.Dec.{leb, eqb}
@@ -24,15 +24,9 @@ unfoldable pub allFlags : List ℕ → Bool
 allFlags [] = true
 allFlags (x ∷ e) = elim (leb x 1) [ true ↦ allFlags e | false ↦ false ]
 
--- no bits, or bits that end in 1
-unfoldable pub endsInOne : List ℕ → Bool
-endsInOne [] = true
-endsInOne (x ∷ []) = eqb x 1
-endsInOne (x ∷ y ∷ e) = endsInOne (y ∷ e)
-
--- extension bits only under flag 1
+-- extension bits only under flag 1, ending in either bit
 unfoldable pub extensionGood : (flag : ℕ) → List ℕ → Bool
-extensionGood flag e = allFlags e && (endsInOne e && (eqb flag 1 || eqb (length e) 0))
+extensionGood flag e = allFlags e && (eqb flag 1 || eqb (length e) 0)
 
 -- the extension at the front of a record's rest: its count, and so many numbers
 unfoldable pub extensionOf : List ℕ → List ℕ

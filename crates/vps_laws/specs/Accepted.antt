@@ -57,7 +57,7 @@ general-read rules s general t next e =
 begun : (general x : List ℕ) → length general ≡ 9 → Begun (general ++ x) general
 begun general x l = record { at = λ i h. List·getD-append general x 0 i (omega arith) }
 
-extension-of : (general : List ℕ) (t : List Token) (e : List ℕ) → extensionOf (closing general t e) ≡ e
+pub extension-of : (general : List ℕ) (t : List Token) (e : List ℕ) → extensionOf (closing general t e) ≡ e
 unfolding extensionOf
 extension-of general t e = take-append-seam e (starts 9 t ++ ((length (bodyOf general t e) + 8) ∷ []))
 

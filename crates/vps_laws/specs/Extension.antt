@@ -1,28 +1,36 @@
--- The extension: what is read while two one-bits remain, and what is written reads back.
+-- The extension: what is read up to the last one-bit, and what is written reads back.
 use Prim.Native.Nat.{ℕ, zero, suc, _+_, _*_, _-_, _≤_, _<_}
-use mathlib.Core.Path.{_≡_, refl, sym, ap, _∙_, subst}
+use mathlib.Core.Path.{_≡_, refl, sym, ap, _∙_}
 use mathlib.Core.List.{List, [], _∷_, _++_}
-use mathlib.Core.Bool.{Bool, true, false, _&&_, _||_}
-use native.Mathlib.Nat.{add-comm, add-zero}
-use native.Mathlib.Numerals.{add-one}
+use mathlib.Core.Bool.{Bool, true, false, _||_}
+use native.Mathlib.Nat.{add-zero}
 use native.Mathlib.Omega.{arith}
-use borrow.Author.Tests.{leb-true, leb-false, eqb-true, le-leb, lt-leb, eq-eqb, ne-eqb}
-use lib.Dec.{leb, eqb}
-use lib.ListN.{length, replicate}
+use borrow.Author.Tests.{leb-true, eqb-true, le-leb, ltb-true, ltb-false, ne-eqb}
+use lib.Dec.{leb, ltb, eqb}
+use lib.ListN.{length, replicate, length-replicate, length-append}
 use Rattle.lists.specs.Table.{and-both}
-use Rattle.bits.specs.Bits.{bitAt, onesAt}
+use Rattle.bits.specs.Bits.{bitAt, onesFrom}
 use Rattle.bits.specs.Reading.{moreData}
-use Rattle.bits.specs.FieldLaws.{BitsAt, bit-lt, ones-split}
+use Rattle.bits.specs.FieldLaws.{BitsAt, bit-lt, bits-right}
+use Rattle.bits.specs.OneLaws.{LastOne, ones-past-end, ones-behind-zeros, last-inside, more-before-last, more-without-ones}
+use Rattle.bits.specs.TrailingLaws.{zeros-field}
 use Rattle.bits.specs.ByteLaws.{AllBits}
-use Rattle.vps_definition.specs.Words.{sum}
 use Rattle.vps_definition.specs.Reading.{bitsAt, dataBits, extensionBits}
-use Rattle.vps_definition.specs.Writing.{allFlags, endsInOne, extensionGood}
+use Rattle.vps_definition.specs.Writing.{allFlags, extensionGood}
 
 -- ── Bits at a place ───────────────────────────────────────────────────
 pub bits-at-length : (s : List ℕ) (at n : ℕ) → length (bitsAt s at n) ≡ n
 unfolding bitsAt
 bits-at-length s at zero = refl
 bits-at-length s at (suc n) = ap suc (bits-at-length s (at + 1) n)
+
+-- so many bits, and one more
+pub bits-at-last : (s : List ℕ) (at n : ℕ) → bitsAt s at (suc n) ≡ bitsAt s at n ++ (bitAt s (at + n) ∷ [])
+unfolding bitsAt
+bits-at-last s at zero = rw (add-zero at) refl
+bits-at-last s at (suc n) =
+    let e : at + 1 + n ≡ at + suc n = omega arith in
+    ap (λ (l : List ℕ). bitAt s at ∷ l) (bits-at-last s (at + 1) n ∙ ap (λ (k : ℕ). bitsAt s (at + 1) n ++ (bitAt s k ∷ [])) e)
 
 pub bits-at-stand : (s : List ℕ) (at : ℕ) (e : List ℕ) → BitsAt s at e → bitsAt s at (length e) ≡ e
 unfolding bitsAt
@@ -43,38 +51,22 @@ flags-bits (b ∷ e) h = go (flags-bits e) (leb b 1) refl h
     go k true f g = (omega (arith, leb-true b 1 f), k g)
     go k false f g = absurd (let n : _≡_ {A = ℕ} 0 1 = cc in omega arith)
 
--- ── Ones ──────────────────────────────────────────────────────────────
-ones-first : (s : List ℕ) (at n : ℕ) → onesAt s at (suc n) ≡ bitAt s at + onesAt s (at + 1) n
-ones-first s at n =
-    let e : suc n ≡ 1 + n = omega arith in
-    let o : onesAt s at 1 ≡ bitAt s at = unfold onesAt in rw add-zero (omega arith) in
-    ap (onesAt s at) e ∙ ones-split s at 1 n ∙ ap (λ (k : ℕ). k + onesAt s (at + 1) n) o
-
-ones-stand : (s : List ℕ) (at : ℕ) (x : List ℕ) → BitsAt s at x → onesAt s at (length x) ≡ sum x
-unfolding sum
-ones-stand s at [] h = unfold onesAt in refl
-ones-stand s at (b ∷ x) h = ones-first s at (length x) ∙ rw (h .0, ones-stand s (at + 1) x (h .1)) refl
-
-sum-join : (x y : List ℕ) → sum (x ++ y) ≡ sum x + sum y
-unfolding sum
-sum-join [] y = omega arith
-sum-join (b ∷ x) y = omega (arith, sum-join x y)
-
-sum-zeros : (n : ℕ) → sum (replicate n 0) ≡ 0
-unfolding sum
-sum-zeros zero = refl
-sum-zeros (suc n) = omega (arith, sum-zeros n)
-
 -- ── What is read ──────────────────────────────────────────────────────
--- one more bit is read exactly while two ones remain
-data-more : (s : List ℕ) (at n : ℕ) → suc n ≡ 8 * length s - at → 2 ≤ onesAt s at (suc n) → dataBits s at (suc n) ≡ suc (dataBits s (at + 1) n)
-unfolding dataBits moreData
-data-more s at n e h = rw (← e, le-leb 2 (onesAt s at (suc n)) h, dataBits) refl
+-- the bits up to the last one, none where that lies before the place
+pub data-to-last : (s : List ℕ) (at n p : ℕ) → n ≡ 8 * length s - at → LastOne s p → dataBits s at n ≡ p - at
+unfolding dataBits
+data-to-last s at zero p e L = omega (arith, last-inside s p L)
+data-to-last s at (suc n) p e L = rw (more-before-last s p at L, dataBits) (go (ltb at p) refl (data-to-last s (at + 1) n p (omega arith) L))
+  where
+    go : (b : Bool) → ltb at p ≡ b → dataBits s (at + 1) n ≡ p - (at + 1) → elim b as (λ d. ℕ) [ true ↦ suc (dataBits s (at + 1) n) | false ↦ 0 ] ≡ p - at
+    go true f h = omega (arith, h, ltb-true at p f)
+    go false f h = omega (arith, ltb-false at p f)
 
-data-none : (s : List ℕ) (at n : ℕ) → n ≡ 8 * length s - at → onesAt s at n < 2 → dataBits s at n ≡ 0
-unfolding dataBits moreData
-data-none s at zero e h = refl
-data-none s at (suc n) e h = rw (← e, lt-leb 2 (onesAt s at (suc n)) h, dataBits) refl
+-- and none where no one is left
+pub data-without-ones : (s : List ℕ) (at n : ℕ) → onesFrom s at ≡ 0 → dataBits s at n ≡ 0
+unfolding dataBits
+data-without-ones s at zero h = refl
+data-without-ones s at (suc n) h = rw (more-without-ones s at h, dataBits) refl
 
 pub data-most : (s : List ℕ) (at n : ℕ) → dataBits s at n ≤ n
 unfolding dataBits
@@ -85,78 +77,35 @@ data-most s at (suc n) = go (data-most s (at + 1) n) (moreData s at)
     go h true = omega arith
     go h false = omega arith
 
--- the bits read are none, or end in 1
-pub data-ends : (s : List ℕ) (at n : ℕ) → n ≡ 8 * length s - at → endsInOne (bitsAt s at (dataBits s at n)) ≡ true
-unfolding endsInOne bitsAt
-data-ends s at zero e = unfold dataBits in refl
-data-ends s at (suc n) e = go (data-ends s (at + 1) n (omega arith)) (leb 2 (onesAt s at (suc n))) refl
-  where
-    last : (k : ℕ) → dataBits s (at + 1) n ≡ k → 2 ≤ onesAt s at (suc n) → endsInOne (bitsAt s (at + 1) k) ≡ true → endsInOne (bitsAt s at (suc k)) ≡ true
-    last zero f h i =
-        let one : onesAt s (at + 1) n ≤ 1 = few (leb 2 (onesAt s (at + 1) n)) refl in
-        eq-eqb (bitAt s at) 1 (omega (arith, bit-lt s at, ones-first s at n))
-      where
-        few : (c : Bool) → leb 2 (onesAt s (at + 1) n) ≡ c → onesAt s (at + 1) n ≤ 1
-        few false g = omega (arith, leb-false 2 (onesAt s (at + 1) n) g)
-        few true g = some n (omega arith) f (leb-true 2 (onesAt s (at + 1) n) g)
-          where
-            some : (n : ℕ) → n ≡ 8 * length s - (at + 1) → dataBits s (at + 1) n ≡ 0 → 2 ≤ onesAt s (at + 1) n → onesAt s (at + 1) n ≤ 1
-            some zero e f g = unfold onesAt in omega arith
-            some (suc n) e f g = absurd (omega (arith, data-more s (at + 1) n e g))
-    last (suc k) f h i = i
-
-    go : endsInOne (bitsAt s (at + 1) (dataBits s (at + 1) n)) ≡ true → (c : Bool) → leb 2 (onesAt s at (suc n)) ≡ c → endsInOne (bitsAt s at (dataBits s at (suc n))) ≡ true
-    go i true g =
-        let h : 2 ≤ onesAt s at (suc n) = leb-true 2 (onesAt s at (suc n)) g in
-        rw (data-more s at n e h) (last (dataBits s (at + 1) n) refl h i)
-    go i false g = rw (data-none s at (suc n) e (leb-false 2 (onesAt s at (suc n)) g)) refl
-
 pub extension-good : (flag : ℕ) (s : List ℕ) (at : ℕ) → flag < 2 → extensionGood flag (bitsAt s at (extensionBits flag s at)) ≡ true
 unfolding extensionGood extensionBits
-extension-good zero s at h = unfold bitsAt allFlags endsInOne in refl
-extension-good (suc zero) s at h = rw (bits-at-flags s at (dataBits s at (8 * length s - at)), data-ends s at (8 * length s - at) refl) refl
+extension-good zero s at h = unfold bitsAt allFlags in refl
+extension-good (suc zero) s at h = rw (bits-at-flags s at (dataBits s at (8 * length s - at))) refl
 extension-good (suc (suc n)) s at h = absurd (omega arith)
 
 pub good-bits : (flag : ℕ) (e : List ℕ) → extensionGood flag e ≡ true → AllBits e
 unfolding extensionGood
-good-bits flag e h = flags-bits e (and-both (allFlags e) (endsInOne e && (eqb flag 1 || eqb (length e) 0)) h .0)
+good-bits flag e h = flags-bits e (and-both (allFlags e) (eqb flag 1 || eqb (length e) 0) h .0)
 
 -- ── What is written is read ───────────────────────────────────────────
-ends-sum : (b : ℕ) (e : List ℕ) → endsInOne (b ∷ e) ≡ true → 1 ≤ sum (b ∷ e)
-unfolding endsInOne sum
-ends-sum b [] h = omega (arith, eqb-true b 1 h)
-ends-sum b (c ∷ e) h = omega (arith, ends-sum c e h)
-
-ends-tail : (b : ℕ) (e : List ℕ) → endsInOne (b ∷ e) ≡ true → endsInOne e ≡ true
-unfolding endsInOne
-ends-tail b [] h = refl
-ends-tail b (c ∷ e) h = h
-
--- bits that end in 1, and then the only one that is left, with zeros to the end
-data-stand : (s : List ℕ) (at : ℕ) (e : List ℕ) (k n : ℕ) → BitsAt s at (e ++ (1 ∷ replicate k 0)) → endsInOne e ≡ true
-    → n ≡ length (e ++ (1 ∷ replicate k 0)) → n ≡ 8 * length s - at → dataBits s at n ≡ length e
-data-stand s at [] k n h l f g =
-    let t : onesAt s at n ≡ 1 = ap (onesAt s at) f ∙ ones-stand s at (1 ∷ replicate k 0) h ∙ (unfold sum in omega (arith, sum-zeros k)) in
-    data-none s at n g (omega arith)
-data-stand s at (b ∷ e) k n h l f g =
-    let t : onesAt s at n ≡ sum ((b ∷ e) ++ (1 ∷ replicate k 0)) = ap (onesAt s at) f ∙ ones-stand s at ((b ∷ e) ++ (1 ∷ replicate k 0)) h in
-    let u = sum-join (b ∷ e) (1 ∷ replicate k 0) in
-    let w : sum (1 ∷ replicate k 0) ≡ 1 = unfold sum in omega (arith, sum-zeros k) in
-    let m : ℕ = length (e ++ (1 ∷ replicate k 0)) in
-    rw f (data-more s at m (sym f ∙ g) (omega (arith, ap (onesAt s at) f, ends-sum b e l))
-    ∙ ap suc (data-stand s (at + 1) e k m (h .1) (ends-tail b e l) refl (omega arith)))
+-- bits, and then the last one, with zeros to the end
+last-stands : (s : List ℕ) (at : ℕ) (e : List ℕ) (k : ℕ) → BitsAt s at (e ++ (1 ∷ replicate k 0)) → 8 * length s ≡ at + length (e ++ (1 ∷ replicate k 0)) → LastOne s (at + length e)
+last-stands s at e k h g =
+    let H = bits-right s at e (1 ∷ replicate k 0) h in
+    let l : length {A = ℕ} (replicate k 0) ≡ k = length-replicate k 0 in
+    record {
+      one = H .0;
+      none = ones-behind-zeros s (at + length e + 1) k (zeros-field s (at + length e + 1) k (H .1)) ∙ ones-past-end s (at + length e + 1 + k) (omega (arith, g, l, length-append e (1 ∷ replicate k 0)));
+    }
 
 pub extension-stands : (flag : ℕ) (s : List ℕ) (at : ℕ) (e : List ℕ) (k : ℕ) → BitsAt s at (e ++ (1 ∷ replicate k 0)) → extensionGood flag e ≡ true
     → 8 * length s ≡ at + length (e ++ (1 ∷ replicate k 0)) → extensionBits flag s at ≡ length e
 unfolding extensionBits extensionGood
-extension-stands flag s at e k h l g =
-    let a = and-both (allFlags e) (endsInOne e && (eqb flag 1 || eqb (length e) 0)) l in
-    let b = and-both (endsInOne e) (eqb flag 1 || eqb (length e) 0) (a .1) in
-    go (eqb flag 0) refl (b .0) (b .1)
+extension-stands flag s at e k h l g = go (eqb flag 0) refl (and-both (allFlags e) (eqb flag 1 || eqb (length e) 0) l .1)
   where
-    go : (c : Bool) → eqb flag 0 ≡ c → endsInOne e ≡ true → (eqb flag 1 || eqb (length e) 0) ≡ true → elim c as (λ d. ℕ) [ true ↦ 0 | false ↦ dataBits s at (8 * length s - at) ] ≡ length e
-    go true f i j =
+    go : (c : Bool) → eqb flag 0 ≡ c → (eqb flag 1 || eqb (length e) 0) ≡ true → elim c as (λ d. ℕ) [ true ↦ 0 | false ↦ dataBits s at (8 * length s - at) ] ≡ length e
+    go true f j =
         let n : eqb flag 1 ≡ false = ne-eqb flag 1 (λ o. omega (arith, eqb-true flag 0 f)) in
         let z : eqb (length e) 0 ≡ true = rw n at j in
         sym (eqb-true (length e) 0 z)
-    go false f i j = data-stand s at e k (8 * length s - at) h i (omega arith) refl
+    go false f j = data-to-last s at (8 * length s - at) (at + length e) refl (last-stands s at e k h g) ∙ omega arith

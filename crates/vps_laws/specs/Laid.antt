@@ -21,10 +21,11 @@ use Rattle.vps_definition.specs.OutputLayerSets.{totalNumOlss, numMultiLayerOls
 use Rattle.vps_definition.specs.OutputLayerSets.Sets.{each-layer, up-to}
 use Rattle.vps_definition.specs.Vps.{Header, SetsRead, rows-section, no-rows, sets-section, multi-layer-sections, single-layer-sections, buffer-sections, generalOf, vpsUnder}
 use Rattle.vps_definition.specs.Record.{recordOf, startOf}
-use Rattle.vps_definition.specs.Layout.{fromSection, idsFrom, layerIds, ptlCount, setCount, ptlIndices, dpbCount, behindSlots, dpbEntries, multiCount, fifths, dpbIndices, timingFlag, timingCount, timingIndices}
+use Rattle.vps_definition.specs.Writing.{extensionOf}
+use Rattle.vps_definition.specs.Layout.{fromSection, idsFrom, layerIds, ptlCount, setCount, ptlIndices, dpbCount, behindSlots, dpbEntries, multiCount, fifths, dpbIndices, timingFlag, timingCount, timingIndices, extensionIn}
 use Rattle.vps_laws.specs.Keeps.{Keeps, Below, numbers-append, keeps-so, keeps-both, keeps-bind, keeps-test, keeps-mark, keeps-keep, keeps-done, keeps-u, keeps-check, keeps-general-if, keeps-nothing}
 use Rattle.vps_laws.specs.Sections.{Sections, sections}
-use Rattle.vps_laws.specs.Accepted.{closing, record-parts}
+use Rattle.vps_laws.specs.Accepted.{closing, record-parts, extension-of}
 use Rattle.vps_laws.specs.Marks.{marks, marks-append, start-of, from-section}
 use Rattle.vps_laws.specs.Places.{ReadAt, keeps-read}
 use Rattle.vps_laws.specs.Plain.{Plain, plain-layers-section, plain-rows-section, plain-no-rows, plain-ptl-section, plain-ols-section, plain-dpb-section, plain-timing-section}
@@ -363,3 +364,16 @@ record-sound rules s g t next e R =
 -- a table that is read has seven marks
 pub record-seven : (rules : Rules) (s g : List ℕ) (t : List Token) (next : ℕ) → run (vpsUnder rules) s 0 ≡ accepted g t next → marks t ≡ 7
 record-seven rules s g t next R = seven-marks (seven-parts (sections rules s g t next R)) .seven
+
+-- and its record ends with the extension section and the trailer
+pub record-from-extension : (rules : Rules) (s g : List ℕ) (t : List Token) (next : ℕ) (e : List ℕ) → run (vpsUnder rules) s 0 ≡ accepted g t next → fromSection (recordOf g t e) 7 ≡ closing g t e
+unfolding numbers
+record-from-extension rules s g t next e R =
+    let S = sections rules s g t next R in
+    let K = seven-marks (seven-parts S) in
+    from-mark g t e (ap length (S .general-is)) (K .seven) 6 _ [] (K .seventh)
+
+-- with the bits that were read
+pub record-extension : (rules : Rules) (s g : List ℕ) (t : List Token) (next : ℕ) (e : List ℕ) → run (vpsUnder rules) s 0 ≡ accepted g t next → extensionIn (recordOf g t e) ≡ e
+unfolding extensionIn
+record-extension rules s g t next e R = ap extensionOf (record-from-extension rules s g t next e R) ∙ extension-of g t e

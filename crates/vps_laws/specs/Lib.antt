@@ -29,6 +29,10 @@ pub mod Views
 pub mod Promises
 pub mod Bound
 pub mod Compared
+pub mod LongerExtension
+pub mod AnyExtension
+pub mod Changes
+pub mod BeforeCases
 pub mod Codes
 pub mod Says
 pub mod Order

@@ -32,7 +32,7 @@ use Rattle.vps_laws.specs.Writing.{emit-run, emit-bits}
 use Rattle.vps_laws.specs.Extension.{bits-at-stand, good-bits, extension-stands}
 
 -- ── What an accepted unit is ──────────────────────────────────────────
-not-accepts : {A : Type 0} {k n : ℕ} {r : List ℕ} → refuses k ≡ accepts r n → A
+pub not-accepts : {A : Type 0} {k n : ℕ} {r : List ℕ} → refuses k ≡ accepts r n → A
 not-accepts e = absurd (let n : _≡_ {A = ℕ} 0 1 = cc in omega arith)
 
 guard-accepts : (c : Bool) (k : ℕ) (R : Reading) {r : List ℕ} {n : ℕ} → elim c as (λ d. Reading) [ true ↦ R | false ↦ refuses k ] ≡ accepts r n → (c ≡ true) × (R ≡ accepts r n)
@@ -122,7 +122,7 @@ packed b e B E =
     record { stands = pack-bits c [] A (ap (λ (n : ℕ). n % 8) (whole-bytes b e) ∙ boundary (d + 1)) 0 refl; size = rbsp-size b e }
 
 -- an RBSP of the table's bits and the extension's is read as their record
-read-packed : (rules : Rules) (general : List ℕ) (t : List Token) (b e : List ℕ) → AllBits b → extensionGood (getD general 8 0) e ≡ true
+pub read-packed : (rules : Rules) (general : List ℕ) (t : List Token) (b e : List ℕ) → AllBits b → extensionGood (getD general 8 0) e ≡ true
     → ((s : List ℕ) → BitsAt s 0 b → 0 + length b ≤ 8 * length s → run (vpsUnder rules) s 0 ≡ accepted general t (0 + length b))
     → readRbspUnder rules (rbspOf b e) ≡ accepts (recordOf general t e) (8 * length (rbspOf b e))
 read-packed rules general t b e B G R =

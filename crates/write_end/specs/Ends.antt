@@ -1,14 +1,14 @@
 -- How a record that the table has taken ends: what the code finds, and what that makes of the record.
 use Prim.Native.Nat.{ℕ, _+_, _-_, _*_, _≤_, _<_}
 use mathlib.Core.Path.{_≡_, refl, sym, ap, _∙_, subst}
-use mathlib.Core.List.{List, [], _∷_, _++_}
-use mathlib.Core.Bool.{Bool, true, false, _&&_, _||_, true≢false}
+use mathlib.Core.List.{List, [], _∷_}
+use mathlib.Core.Bool.{Bool, true, false, _||_, true≢false}
 use native.Mathlib.Nat.{add-zero}
 use native.Mathlib.Omega.{arith}
 use borrow.Author.Tests.{lt-leb, eq-eqb}
-use lib.Dec.{leb, eqb}
+use lib.Dec.{eqb}
 use lib.ListN.{length, getD, take, drop, length-append, length-drop}
-use lib.Seq.{take-all, drop-cons, drop-drop, getD-drop, length-take-le, sets}
+use lib.Seq.{take-all, drop-drop, getD-drop, length-take-le, sets}
 use Rattle.refusals.specs.Answer.{Answer}
 use Rattle.refusals.specs.Answer.Answer.{success, refusal}
 use Rattle.refusals.specs.Number.{not-well-formed}
@@ -19,11 +19,11 @@ use Rattle.vps_definition.specs.Syntax.Token.{number}
 use Rattle.vps_definition.specs.Syntax.Written.{wrote, bad}
 use Rattle.vps_definition.specs.Words.{inferred, repeat}
 use Rattle.vps_definition.specs.Reading.{most-rbsp-bytes}
-use Rattle.vps_definition.specs.Writing.{allFlags, endsInOne, extensionGood, extensionOf, rbspOf, unitOf, limited, partsGood, finished}
+use Rattle.vps_definition.specs.Writing.{allFlags, extensionGood, extensionOf, rbspOf, unitOf, limited, partsGood, finished}
 use Rattle.vps_laws.specs.Units.{rbsp-size}
 use Rattle.vps_laws.specs.Accepted.{finished-of}
 use Rattle.write_steps.specs.Does.{Fails}
-use Rattle.write_end.specs.Parts.{Taken, Passed, trailerOf, countIn, parts-good, parts-passed, made-up}
+use Rattle.write_end.specs.Parts.{Taken, Passed, trailerOf, countIn, parts-passed, made-up}
 use Rattle.write_end.specs.Flags.{data-flag, Flagged, flags-are, flags-bad}
 use Rattle.write_end.specs.Numbers.{Stands}
 use Rattle.write_end.specs.declared.Ended.{Ended}
@@ -39,7 +39,6 @@ pub record Almost (r g : List ℕ) (t : List Token) (c : ℕ) : Type 0 where
   pub general : Stands r 0 g
   pub trailer : Stands r (c + 1 + countIn r c) (trailerOf r t)
   pub may : mayExtend (getD g 8 0) (countIn r c) ≡ true
-  pub ends : endsInOne (extensionOf (drop c r)) ≡ true
 
 abbrev pub Looked : (r g : List ℕ) (t : List Token) (c : ℕ) → Bool → Type 0
 Looked r g t c true = Almost r g t c
@@ -80,21 +79,19 @@ module _ {r g : List ℕ} {t : List Token} {c : ℕ} (T : Taken r g t c) where
     total = A .total;
     general = ap (λ (n : ℕ). take n r) (sym (T .nine)) ∙ A .general;
     trailer = sym (behind (A .total)) ∙ A .trailer;
-    extension = rw (f, A .ends, extension-length (A .total)) (A .may);
+    extension = rw (f, extension-length (A .total)) (A .may);
   }
 
   pub passed-almost : Passed r g t c → Almost r g t c
   unfolding extensionGood
   passed-almost P =
       let e : List ℕ = extensionOf (drop c r) in
-      let f = and-both (allFlags e) (endsInOne e && mayExtend (getD g 8 0) (length e)) (P .extension) in
-      let h = and-both (endsInOne e) (mayExtend (getD g 8 0) (length e)) (f .1) in
+      let f = and-both (allFlags e) (mayExtend (getD g 8 0) (length e)) (P .extension) in
       record {
         total = P .total;
         general = ap (λ (n : ℕ). take n r) (T .nine) ∙ P .general;
         trailer = behind (P .total) ∙ P .trailer;
-        may = ap (mayExtend (getD g 8 0)) (sym (extension-length (P .total))) ∙ h .1;
-        ends = h .0;
+        may = ap (mayExtend (getD g 8 0)) (sym (extension-length (P .total))) ∙ f .1;
       }
 
   pub not-looked : (Almost r g t c → ⊥) → partsGood g t (extensionOf (drop c r)) r ≡ false
@@ -114,22 +111,14 @@ module _ {r g : List ℕ} {t : List Token} {c : ℕ} (T : Taken r g t c) where
     pub no-trailer : (Stands r (c + 1 + count) l → ⊥) → Looked r g t c false
     no-trailer h = not-looked (λ A. h (subst (λ (x : List ℕ). Stands r (c + 1 + count) x) (sym q) (subst (λ (k : ℕ). Stands r (c + 1 + k) (trailerOf r t)) (sym n) (A .trailer))))
 
-    pub no-extension : mayExtend flag count ≡ false → Looked r g t c false
-    no-extension h = not-looked (λ A. absurd (true≢false (sym (A .may) ∙ (λ i. mayExtend (f i) (sym n i)) ∙ h)))
-
-    pub looked : (b : Bool) → c + count + 9 ≡ length r → Stands r 0 g → Stands r (c + 1 + count) l → mayExtend flag count ≡ true → b ≡ endsInOne (take count (drop 1 (drop c r))) → Looked r g t c b
-    unfolding extensionOf
-    looked b k s u m e = go b (e ∙ ap (λ (i : ℕ). endsInOne (take i (drop 1 (drop c r)))) n)
-      where
-        go : (b : Bool) → b ≡ endsInOne (extensionOf (drop c r)) → Looked r g t c b
-        go true h = record {
-          total = ap (λ (i : ℕ). c + i + 9) (sym n) ∙ k;
-          general = s;
-          trailer = subst (λ (i : ℕ). Stands r (c + 1 + i) (trailerOf r t)) n (subst (λ (x : List ℕ). Stands r (c + 1 + count) x) q u);
-          may = (λ i. mayExtend (f i) (sym n i)) ∙ m;
-          ends = sym h;
-        }
-        go false h = not-looked (λ A. absurd (true≢false (sym (A .ends) ∙ sym h)))
+    pub looked : (b : Bool) → c + count + 9 ≡ length r → Stands r 0 g → Stands r (c + 1 + count) l → b ≡ mayExtend flag count → Looked r g t c b
+    looked true k s u m = record {
+      total = ap (λ (i : ℕ). c + i + 9) (sym n) ∙ k;
+      general = s;
+      trailer = subst (λ (i : ℕ). Stands r (c + 1 + i) (trailerOf r t)) n (subst (λ (x : List ℕ). Stands r (c + 1 + count) x) q u);
+      may = (λ i. mayExtend (f i) (sym n i)) ∙ sym m;
+    }
+    looked false k s u m = not-looked (λ A. absurd (true≢false (sym (A .may) ∙ (λ i. mayExtend (f i) (sym n i)) ∙ sym m)))
 
 -- ── The extension's table ─────────────────────────────────────────────
 -- the count, and so many flags
@@ -216,7 +205,7 @@ module _ {r g : List ℕ} {t : List Token} {c : ℕ} (T : Taken r g t c) (A : Al
           let f : allFlags (extensionOf (drop c r)) ≡ false = extension-bad (countIn r c) r (drop c r) (length d) some refl e enough in
           finished-bad r g t (drop c r) d
           (is-false (partsGood g t (extensionOf (drop c r)) r)
-          (λ p. true≢false (sym (and-both (allFlags (extensionOf (drop c r))) (endsInOne (extensionOf (drop c r)) && mayExtend (getD g 8 0) (length (extensionOf (drop c r)))) (parts-passed T p .extension) .0) ∙ f)))
+          (λ p. true≢false (sym (and-both (allFlags (extensionOf (drop c r))) (mayExtend (getD g 8 0) (length (extensionOf (drop c r)))) (parts-passed T p .extension) .0) ∙ f)))
 
   pub ends-good : {a : Unit {0}} {s : List Token} {y b : List ℕ} → emit (extension-table (countIn r c)) r (drop c r) (length d) ≡ wrote a s y b → length d + length b < 8 * most-rbsp-bytes
       → finished r (wrote g t (drop c r) d) ≡ success (unitOf (rbspOf d b))

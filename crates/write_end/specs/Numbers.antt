@@ -1,14 +1,12 @@
 -- Whether a record has given numbers from a place on.
-use Prim.Native.Nat.{ℕ, zero, suc, _+_, _-_, _≤_, _<_}
+use Prim.Native.Nat.{ℕ, _+_, _-_, _≤_, _<_}
 use mathlib.Core.Path.{_≡_, refl, sym, ap, _∙_, subst}
 use mathlib.Core.List.{List, [], _∷_, _++_}
 use mathlib.Core.Bool.{Bool, true, false}
 use native.Mathlib.Numerals.{add-one}
 use native.Mathlib.Omega.{arith}
-use lib.Dec.{eqb}
 use lib.ListN.{length, getD, take, drop, length-drop, length-take}
-use lib.Seq.{take-suc, take-length, getD-take, getD-drop, length-take-le}
-use Rattle.vps_definition.specs.Writing.{endsInOne}
+use lib.Seq.{take-suc, take-length, getD-take, getD-drop}
 
 -- the numbers of a record from a place on, as many as there are in the list, are the list
 abbrev pub Stands : (r : List ℕ) (from : ℕ) (l : List ℕ) → Type 0
@@ -52,16 +50,3 @@ module _ (r : List ℕ) (from : ℕ) (l : List ℕ) where
 
   pub too-few : length r - from < length l → Stands r from l → ⊥
   too-few h s = omega (arith, ap length s, length-take (length l) (drop from r), length-drop from r)
-
--- ── The last of some numbers ──────────────────────────────────────────
-ends-last : (a : ℕ) (e : List ℕ) → endsInOne (a ∷ e) ≡ eqb (getD (a ∷ e) (length e) 0) 1
-unfolding endsInOne
-ends-last a [] = refl
-ends-last a (b ∷ e) = ends-last b e
-
-pub ends-at : (x : List ℕ) (n : ℕ) → 0 < n → n ≤ length x → endsInOne (take n x) ≡ eqb (getD x (n - 1) 0) 1
-ends-at x n p l = go (take n x) (length-take-le n x l) ∙ ap (λ (v : ℕ). eqb v 1) (getD-take n x (n - 1) 0 (omega (arith, p)))
-  where
-    go : (e : List ℕ) → length e ≡ n → endsInOne e ≡ eqb (getD e (n - 1) 0) 1
-    go [] q = absurd (omega (arith, p, q))
-    go (a ∷ e) q = let k : length e ≡ n - 1 = omega (arith, q) in ends-last a e ∙ ap (λ (i : ℕ). eqb (getD (a ∷ e) i 0) 1) k

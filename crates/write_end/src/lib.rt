@@ -4,11 +4,11 @@ ghost use mathlib.Core.List.{List};
 ghost use mathlib.Core.Bool.{_||_};
 ghost use Prim.Native.Nat.{ℕ, _+_, _-_, _≤_, _<_};
 ghost use lib.Dec.{eqb};
-ghost use lib.ListN.{length, getD, take, drop};
+ghost use lib.ListN.{length, getD, drop};
 ghost use Rattle.vps_definition.specs.Syntax.{Token};
 ghost use Rattle.vps_definition.specs.Syntax.Written.{wrote};
 ghost use Rattle.vps_definition.specs.Words.{repeat};
-ghost use Rattle.vps_definition.specs.Writing.{endsInOne, finished};
+ghost use Rattle.vps_definition.specs.Writing.{finished};
 ghost use Rattle.write_steps.specs.Does.{Ready, Does};
 ghost use Rattle.write_end.specs.Parts.{Taken, trailerOf, countIn};
 ghost use Rattle.write_end.specs.Flags.{data-flag};
@@ -58,17 +58,6 @@ fn may_extend(flag: u32, count: usize) -> bool
     flag == 1 || count == 0
 }
 
-// Whether so many numbers behind number c end in 1.
-fn ends_in_one(rec: &[u32], c: usize, count: usize) -> bool
-    requires { ⌜ c + count < length (now rec) ⌝ }
-    ensures { λ r. ⌜ r ≡ endsInOne (take count (drop 1 (drop c (now (rec .entry))))) ⌝ }
-{
-    if count == 0 {
-        return true;
-    }
-    rec[c + count] == 1
-}
-
 // Whether the record ends as it must behind the table's numbers, its bits not looked at one by one.
 fn has_end(rec: &[u32], c: usize, flag: u32, general: &[usize], trailer: &[usize]) -> bool
     ensures { λ r. ⌜ ((t : List Token) → Taken (now (rec .entry)) (now (general .entry)) t c → now (trailer .entry) ≡ trailerOf (now (rec .entry)) t → getD (now (general .entry)) 8 0 ≡ flag → Looked (now (rec .entry)) (now (general .entry)) t c r) ⌝ }
@@ -87,10 +76,7 @@ fn has_end(rec: &[u32], c: usize, flag: u32, general: &[usize], trailer: &[usize
     if !has_numbers(rec, c + 1 + count, trailer) {
         return false;
     }
-    if !may_extend(flag, count) {
-        return false;
-    }
-    ends_in_one(rec, c, count)
+    may_extend(flag, count)
 }
 
 // So many flags of one bit.

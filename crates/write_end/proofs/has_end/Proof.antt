@@ -1,9 +1,8 @@
 -- `has_end` meets its contract: each test that fails says why the parts don't make up the record.
 use Prim.Native.Nat.{_+_}
-use Rattle.write_end.specs.Ends.{no-room, no-total, no-general, no-trailer, no-extension, looked, counted}
+use Rattle.write_end.specs.Ends.{no-room, no-total, no-general, no-trailer, looked, counted}
 use Rattle.write_end.specs.Numbers.{stands, stands-not}
 use borrow.Author.Tests.{not-true, not-false}
-use mathlib.Core.Path.{sym, ap, _∙_}
 use native.Mathlib.Omega.{arith}
 use borrow.Author.Needs.{needs}
 use Rattle.write_end.proofs.has_end.Statement.{statement}
@@ -46,15 +45,9 @@ may-extend-requires : tie.Need-may-extend-requires
 may-extend-requires c κs = search needs
 
 returns-5 : tie.Need-returns-5
-returns-5 c t T q f = no-extension T (counted (c .before .before .before .before .before .before .before .before .before .before .before .before .before .args .rec .now) (c .before .before .before .before .before .before .before .before .before .before .before .before .before .args .c) (c .before .before .before .before .before .before .before .number-at .ensures)) q f (sym (c .before .may-extend .ensures) ∙ not-true _ (c .if5 .taken))
-
-ends-in-one-requires : tie.Need-ends-in-one-requires
-ends-in-one-requires c κs = omega (arith, c .before .before .before .before .before .before .before .before .if1 .left, c .before .before .before .before .before .before .if2 .left, c .before .before .before .before .before .before .before .before .before .left-from .ensures)
-
-returns-6 : tie.Need-returns-6
-returns-6 c t T q f =
-    looked T (counted (c .before .before .before .before .before .before .before .before .before .before .before .before .before .before .args .rec .now) (c .before .before .before .before .before .before .before .before .before .before .before .before .before .before .args .c) (c .before .before .before .before .before .before .before .before .number-at .ensures)) q f _ (omega (arith, c .before .before .before .before .before .before .before .before .before .if1 .left, c .before .before .before .before .before .before .before .if2 .left, c .before .before .before .before .before .before .before .before .before .before .left-from .ensures)) (stands (c .before .before .before .before .before .before .before .before .before .before .before .before .before .before .args .rec .now) 0 (c .before .before .before .before .before .before .before .before .before .before .before .before .before .before .args .general .now) (c .before .before .before .before .before .before .has-numbers .result) (c .before .before .before .before .before .before .has-numbers .ensures) (not-false _ (c .before .before .before .before .before .if3 .left))) (stands (c .before .before .before .before .before .before .before .before .before .before .before .before .before .before .args .rec .now) (c .before .before .before .before .before .before .before .before .before .before .before .before .before .before .args .c + 1 + c .before .before .before .before .before .before .before .before .number-at .result) (c .before .before .before .before .before .before .before .before .before .before .before .before .before .before .args .trailer .now) (c .before .before .before .before .has-numbers2 .result) (c .before .before .before .before .has-numbers2 .ensures) (not-false _ (c .before .before .before .if4 .left)))
-    (sym (c .before .before .may-extend .ensures) ∙ not-false _ (c .before .if5 .left)) (c .ends-in-one .ensures)
+returns-5 c t T q f =
+    looked T (counted (c .before .before .before .before .before .before .before .before .before .before .before .before .args .rec .now) (c .before .before .before .before .before .before .before .before .before .before .before .before .args .c) (c .before .before .before .before .before .before .number-at .ensures)) q f _ (omega (arith, c .before .before .before .before .before .before .before .if1 .left, c .before .before .before .before .before .if2 .left, c .before .before .before .before .before .before .before .before .left-from .ensures)) (stands (c .before .before .before .before .before .before .before .before .before .before .before .before .args .rec .now) 0 (c .before .before .before .before .before .before .before .before .before .before .before .before .args .general .now) (c .before .before .before .before .has-numbers .result) (c .before .before .before .before .has-numbers .ensures) (not-false _ (c .before .before .before .if3 .left))) (stands (c .before .before .before .before .before .before .before .before .before .before .before .before .args .rec .now) (c .before .before .before .before .before .before .before .before .before .before .before .before .args .c + 1 + c .before .before .before .before .before .before .number-at .result) (c .before .before .before .before .before .before .before .before .before .before .before .before .args .trailer .now) (c .before .before .has-numbers2 .result) (c .before .before .has-numbers2 .ensures) (not-false _ (c .before .if4 .left)))
+    (c .may-extend .ensures)
 
 pub has-end-spec : {M : Type 1} → statement M
 has-end-spec =
@@ -72,6 +65,4 @@ has-end-spec =
     has-numbers-requires-2
     returns-4
     may-extend-requires
-    returns-5
-    ends-in-one-requires
-    returns-6)
+    returns-5)
