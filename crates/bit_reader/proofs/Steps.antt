@@ -188,8 +188,3 @@ more-yes s at l h = rw (lt-ltb at (2 ^ 63) l, le-leb 1 (onesFrom s (at + 1)) h) 
 pub more-no : (s : List ℕ) (at : ℕ) → at < 2 ^ 63 → onesFrom s (at + 1) ≡ 0 → success false ≡ askMoreData s at
 unfolding askMoreData moreData
 more-no s at l h = rw (lt-ltb at (2 ^ 63) l, lt-leb 1 (onesFrom s (at + 1)) (omega arith)) refl
-
--- a field that is not 0
-pub not-zero : (n : ℕ) → (n ≡ 0 → ⊥) → 0 < n
-not-zero zero h = absurd (h refl)
-not-zero (suc n) h = omega arith

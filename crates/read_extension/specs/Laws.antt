@@ -1,5 +1,5 @@
 -- How many bits the extension has, found from the end, and the bits stored.
-use Prim.Native.Nat.{ℕ, zero, suc, _+_, _*_, _-_, _≤_, _<_}
+use Prim.Native.Nat.{ℕ, _+_, _*_, _-_, _≤_, _<_}
 use mathlib.Core.Path.{_≡_, refl, sym, ap, _∙_}
 use mathlib.Core.List.{List, [], _∷_}
 use native.Mathlib.Numerals.{add-one}
@@ -13,35 +13,26 @@ use Rattle.bits.specs.OneLaws.{ones-past-end, ones-here, ones-fall}
 use Rattle.vps_definition.specs.Reading.{bitsAt, dataBits}
 use Rattle.vps_laws.specs.Extension.{bits-at-length, bits-at-last, data-to-last, data-without-ones}
 
--- ── The search from the end ───────────────────────────────────────────
--- none of the bits from a place on is a one
-pub record Searched (s : List ℕ) (i : ℕ) : Type 0 where
-  pub none : onesFrom s i ≡ 0
-
-pub searched-none : (s : List ℕ) → Searched s (length s * 8)
-searched-none s = record { none = ones-past-end s (length s * 8) (omega arith) }
+-- ── The search from the end, which has found no one-bit from place i on ──
+pub searched-none : (s : List ℕ) → onesFrom s (length s * 8) ≡ 0
+searched-none s = ones-past-end s (length s * 8) (omega arith)
 
 -- a zero before them
-pub searched-more : (s : List ℕ) (i : ℕ) {bit : ℕ} → bit ≡ bitAt s (i - 1) → Searched s i → 0 < i → (bit ≡ 1 → ⊥) → Searched s (i - 1)
-searched-more s i e S l h =
-    let z : bitAt s (i - 1) ≡ 0 = unset (bitAt s (i - 1)) (bit-lt s (i - 1)) (λ o. h (e ∙ o)) in
+pub searched-more : (s : List ℕ) (i : ℕ) {bit : ℕ} → bit ≡ bitAt s (i - 1) → onesFrom s i ≡ 0 → 0 < i → (bit ≡ 1 → ⊥) → onesFrom s (i - 1) ≡ 0
+searched-more s i e z l h =
     let q : i - 1 + 1 ≡ i = omega arith in
-    record { none = omega (arith, ones-here s (i - 1), z, ap (onesFrom s) q, S .none) }
-  where
-    unset : (b : ℕ) → b < 2 → (b ≡ 1 → ⊥) → b ≡ 0
-    unset zero l h = refl
-    unset (suc zero) l h = absurd (h refl)
-    unset (suc (suc b)) l h = absurd (omega arith)
+    let n : bitAt s (i - 1) ≡ 1 → ⊥ = λ o. h (e ∙ o) in
+    omega (arith, ones-here s (i - 1), bit-lt s (i - 1), n, ap (onesFrom s) q, z)
 
 -- a one before them is the last
-pub searched-found : (s : List ℕ) (at i : ℕ) {bit : ℕ} → bit ≡ bitAt s (i - 1) → Searched s i → 0 < i → bit ≡ 1 → i - 1 - at ≡ dataBits s at (8 * length s - at)
-searched-found s at i e S l h =
+pub searched-found : (s : List ℕ) (at i : ℕ) {bit : ℕ} → bit ≡ bitAt s (i - 1) → onesFrom s i ≡ 0 → 0 < i → bit ≡ 1 → i - 1 - at ≡ dataBits s at (8 * length s - at)
+searched-found s at i e z l h =
     let q : i - 1 + 1 ≡ i = omega arith in
-    sym (data-to-last s at (8 * length s - at) (i - 1) refl (record { one = sym e ∙ h; none = rw q (S .none) }))
+    sym (data-to-last s at (8 * length s - at) (i - 1) refl (record { one = sym e ∙ h; none = rw q z }))
 
 -- and where there is none from the place on, no bit is read
-pub searched-through : (s : List ℕ) (at i : ℕ) → Searched s i → i ≤ at → 0 ≡ dataBits s at (8 * length s - at)
-searched-through s at i S l = sym (data-without-ones s at (8 * length s - at) (omega (arith, S .none, ones-fall s i at l)))
+pub searched-through : (s : List ℕ) (at i : ℕ) → onesFrom s i ≡ 0 → i ≤ at → 0 ≡ dataBits s at (8 * length s - at)
+searched-through s at i z l = sym (data-without-ones s at (8 * length s - at) (omega (arith, z, ones-fall s i at l)))
 
 -- ── Storing ───────────────────────────────────────────────────────────
 pub stored-one-more : (rec : List ℕ) (n : ℕ) (s : List ℕ) (at j : ℕ) → set (sets rec n (bitsAt s at j)) (n + j) (bitAt s (at + j)) ≡ sets rec n (bitsAt s at (j + 1))

@@ -62,7 +62,7 @@ unfoldable pub unit : ℕ → List ℕ
 unit z = 0 ∷ 0x71 ∷ 0x10 ∷ 0 ∷ 0 ∷ 3 ∷ 2 ∷ 0x33 ∷ 0 ∷ 0 ∷ z ∷ []
 
 -- U's record with an extension flag, an extension section and a total length
-recordU : ℕ → List ℕ → ℕ → List ℕ
+unfoldable pub recordU : ℕ → List ℕ → ℕ → List ℕ
 recordU flag extension total =
     (1 ∷ 1 ∷ 0 ∷ 1 ∷ 1 ∷ 1 ∷ 2 ∷ 0 ∷ flag ∷ []) ++ (0 ∷ 1 ∷ 0 ∷ []) ++ (0 ∷ []) ++ (1 ∷ 1 ∷ 0 ∷ 1 ∷ 0 ∷ 51 ∷ 0 ∷ 0 ∷ 0 ∷ 0 ∷ 0 ∷ [])
     ++ (1 ∷ 0 ∷ []) ++ (0 ∷ 0 ∷ []) ++ (0 ∷ []) ++ extension ++ (9 ∷ 12 ∷ 13 ∷ 24 ∷ 26 ∷ 28 ∷ 29 ∷ total ∷ [])

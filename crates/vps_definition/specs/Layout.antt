@@ -98,5 +98,6 @@ unfoldable pub timingIndices : List ℕ → List ℕ
 timingIndices r = take (multiCount r) (drop (startOf r 7 - multiCount r) r)
 
 -- ── Extension ─────────────────────────────────────────────────────────
+-- the bits behind their count
 unfoldable pub extensionIn : List ℕ → List ℕ
 extensionIn r = extensionOf (fromSection r 7)

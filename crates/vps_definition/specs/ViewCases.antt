@@ -8,9 +8,10 @@ use lib.ListN.{getD, take}
 use Rattle.vps_definition.specs.OutputLayerSets.{totalNumOlss, numLayersInOls, numMultiLayerOlss}
 use Rattle.vps_definition.specs.OutputLayerSets.Sets.{up-to}
 use Rattle.vps_definition.specs.Writing.{wellFormed}
-use Rattle.vps_definition.specs.Layout.{fromSection, setCount, multiCount, timingCount, timingIndices}
+use Rattle.vps_definition.specs.Layout.{fromSection, setCount, multiCount, timingCount, timingIndices, extensionIn}
 use Rattle.vps_definition.specs.Views.{refsOf, setsOf, layerInSet, slotOf, bitRateScale, timingEntry, sublayerCount, sublayerAt, nalScheduleAt, vclScheduleAt}
 use Rattle.vps_definition.specs.Open.{opened}
+use Rattle.vps_definition.specs.Cases.{recordU}
 
 pub example : List ℕ
 example = 3 ∷ 1 ∷ 1 ∷ 0 ∷ 0 ∷ 0 ∷ 0 ∷ 0 ∷ 0 ∷ 5 ∷ 1 ∷ 0 ∷ 6 ∷ 0 ∷ 0 ∷ 1 ∷ 2 ∷ 9 ∷ 0 ∷ 1 ∷ 0 ∷ 2 ∷ 1 ∷ 1 ∷ 0 ∷ 1 ∷ 1 ∷ 1 ∷ 1 ∷ 0 ∷ 51 ∷ 0 ∷ 1 ∷ 0 ∷ 0 ∷ 0 ∷ 0 ∷ 3 ∷ 0 ∷ 0 ∷ 0 ∷ 1 ∷ 1 ∷ 4 ∷ 2 ∷ 0 ∷ 2 ∷ 1920 ∷ 1080 ∷ 1 ∷ 2 ∷ 0 ∷ 1920 ∷ 1080 ∷ 1 ∷ 2 ∷ 0 ∷ 1 ∷ 1001 ∷ 60000 ∷ 1 ∷ 1 ∷ 0 ∷ 1 ∷ 0 ∷ 2 ∷ 3 ∷ 0 ∷ 1 ∷ 1 ∷ 2 ∷ 1 ∷ 0 ∷ 1 ∷ 7 ∷ 0 ∷ 100 ∷ 101 ∷ 102 ∷ 103 ∷ 1 ∷ 110 ∷ 111 ∷ 112 ∷ 113 ∷ 1 ∷ 120 ∷ 121 ∷ 122 ∷ 123 ∷ 1 ∷ 130 ∷ 131 ∷ 132 ∷ 133 ∷ 1 ∷ 0 ∷ 1 ∷ 8 ∷ 0 ∷ 200 ∷ 201 ∷ 202 ∷ 203 ∷ 1 ∷ 210 ∷ 211 ∷ 212 ∷ 213 ∷ 1 ∷ 220 ∷ 221 ∷ 222 ∷ 223 ∷ 1 ∷ 230 ∷ 231 ∷ 232 ∷ 233 ∷ 1 ∷ 0 ∷ 0 ∷ 1 ∷ 9 ∷ 0 ∷ 300 ∷ 301 ∷ 302 ∷ 303 ∷ 1 ∷ 310 ∷ 311 ∷ 312 ∷ 313 ∷ 1 ∷ 320 ∷ 321 ∷ 322 ∷ 323 ∷ 1 ∷ 330 ∷ 331 ∷ 332 ∷ 333 ∷ 1 ∷ 0 ∷ 1 ∷ 0 ∷ 9 ∷ 24 ∷ 25 ∷ 37 ∷ 41 ∷ 57 ∷ 147 ∷ 156 ∷ []
@@ -59,3 +60,8 @@ scale = refl
 pub indices : take 2 (timingEntry example (timingCount example)) ≡ timingIndices example
 unfolding opened example
 indices = refl
+
+-- the extension bits of U's record with 1 0, and of the record above, which has none
+pub extension : (extensionIn (recordU 1 (2 ∷ 1 ∷ 0 ∷ []) 40) ≡ 1 ∷ 0 ∷ []) × (extensionIn example ≡ [])
+unfolding opened example recordU
+extension = (refl, refl)

@@ -126,12 +126,8 @@ module _ (rules : Rules) (s general : List ℕ) (t : List Token) (at : ℕ) (rea
       let w : bitsAt s at (p - at) ≡ bitsAt s at c ++ (0 ∷ []) = ap (bitsAt s at) d ∙ bits-at-last s at c ∙ ap (λ (v : ℕ). bitsAt s at c ++ (v ∷ [])) z in
       let y = no-stop s (at + b) (omega (arith, last-inside s p L)) (zero-between s p (at + b) (at + b) L h (omega arith) l) in
       let x = ap (trailingAt s) q ∙ trails-last s p L in
-      rw (x, y, ended) (ends-in-zero _ _ (record-number general t (bitsAt s at (p - at)) 8 (G .nine) (lit< tt) ∙ one (getD general 8 0) f (G .flag)) (bitsAt s at c) (record-extension rules s general t at (bitsAt s at (p - at)) reads ∙ w))
-    where
-      one : (n : ℕ) → (n ≡ 0 → ⊥) → n < 2 → n ≡ 1
-      one zero f l = absurd (f refl)
-      one (suc zero) f l = refl
-      one (suc (suc n)) f l = absurd (omega arith)
+      let v : getD general 8 0 ≡ 1 = omega (arith, f, G .flag) in
+      rw (x, y, ended) (ends-in-zero _ _ (record-number general t (bitsAt s at (p - at)) 8 (G .nine) (lit< tt) ∙ v) (bitsAt s at c) (record-extension rules s general t at (bitsAt s at (p - at)) reads ∙ w))
 
   data-longer : (getD general 8 0 ≡ 0 → ⊥) → Longer (with-bits (dataBits s at (8 * length s - at))) (with-bits (dataBitsBefore s at (8 * length s - at)))
   data-longer f = go (leb 1 (onesFrom s at)) refl

@@ -1,12 +1,14 @@
 -- From the end on, each bit that is 0 is passed; the first that is 1 is the last one-bit.
 use borrow.Author.Needs.{needs}
+use mathlib.Core.Path.{_≡_}
 use native.Mathlib.Omega.{arith}
-use Rattle.read_extension.specs.Laws.{Searched, searched-none, searched-more, searched-found, searched-through}
+use Rattle.bits.specs.Bits.{onesFrom}
+use Rattle.read_extension.specs.Laws.{searched-none, searched-more, searched-found, searched-through}
 use Rattle.read_extension.proofs.data_bits.Statement.{statement}
 use Rattle.read_extension.proofs.data_bits.Tie as tie
 
 abbrev Inv-loop : tie.InvT-loop
-Inv-loop bytes at i₀ i = Searched bytes i
+Inv-loop bytes at i₀ i = onesFrom bytes i ≡ 0
 
 abbrev μ-loop : tie.MeasureT-loop
 μ-loop bytes at i₀ i = i

@@ -9,7 +9,7 @@ use Rattle.bits.specs.Bits.{fieldAt, onesFrom}
 use Rattle.bits.specs.Reading.{askMoreData}
 use Rattle.bits.specs.FieldLaws.{field-byte}
 use Rattle.bits.specs.OneLaws.{ones-past-end, ones-behind-zeros, ones-in-field}
-use Rattle.bit_reader.proofs.Steps.{width-is, more-yes, more-no, not-zero}
+use Rattle.bit_reader.proofs.Steps.{width-is, more-yes, more-no}
 use Rattle.bit_reader.proofs.ReadPlace.more_rbsp_data.Statement.{statement}
 use Rattle.bit_reader.proofs.ReadPlace.more_rbsp_data.Tie as tie
 
@@ -40,7 +40,8 @@ returns-2 c =
     let s = c .before .before .before .before .args .bytes .now in
     let at = c .before .before .before .before .args .self .«bit_pos» in
     let f : c .before .field-at .result ≡ fieldAt s (at + 1) (7 - at % 8) = c .before .field-at .ensures ∙ ap (fieldAt s (at + 1)) (width-is (7 - at % 8) (omega arith)) in
-    more-yes s at (omega (arith, c .before .before .if1 .left)) (ones-in-field s (at + 1) (7 - at % 8) (not-zero _ (λ e. c .if2 .taken (f ∙ e))))
+    let n : fieldAt s (at + 1) (7 - at % 8) ≡ 0 → ⊥ = λ e. c .if2 .taken (f ∙ e) in
+    more-yes s at (omega (arith, c .before .before .if1 .left)) (ones-in-field s (at + 1) (7 - at % 8) (omega (arith, n)))
 
 add-i : tie.Need-add-i Inv-loop μ-loop
 add-i c = search needs
@@ -62,7 +63,8 @@ returns-3 c =
     let at = c .before .before .before .before .before .before .before .before .args .self .«bit_pos» in
     let i = c .before .before .before .loop .i in
     let b = field-byte s i (c .before .shared-slice-known2 .given i .fits) in
-    more-yes s at (omega (arith, c .before .before .before .before .before .before .if1 .left)) (rw (c .before .before .before .loop .inv) (ones-in-field s (8 * i) 8 (not-zero _ (λ e. c .if3 .taken (sym b ∙ e)))))
+    let n : fieldAt s (8 * i) 8 ≡ 0 → ⊥ = λ e. c .if3 .taken (sym b ∙ e) in
+    more-yes s at (omega (arith, c .before .before .before .before .before .before .if1 .left)) (rw (c .before .before .before .loop .inv) (ones-in-field s (8 * i) 8 (omega (arith, n))))
 
 add-i-2 : tie.Need-add-i-2 Inv-loop μ-loop
 add-i-2 c = search needs
