@@ -10,7 +10,7 @@ ghost use Rattle.bit_outcomes.specs.Answers.{step_number, step_place, Steps};
 use bit_writer::{WritePlace, Wrote};
 
 // What a step gives: where the place stands then, and 0 or the number of the refusal.
-#[derive(Drop)]
+#[derive(Clone, Copy)]
 pub struct Stepped {
     pub bit_pos: usize,
     pub number: u32,

@@ -11,13 +11,13 @@ use refusals::{
 };
 
 // A place among the bits of an RBSP, counted from its first.
-#[derive(Drop)]
+#[derive(Clone, Copy)]
 pub struct ReadPlace {
     pub bit_pos: usize,
 }
 
 // What reading a bit, a field or a code says.
-#[derive(Drop)]
+#[derive(Clone, Copy)]
 pub enum Read {
     // the value, and the place behind it
     Value(u32, ReadPlace),
@@ -25,14 +25,14 @@ pub enum Read {
 }
 
 // What a step without a value says.
-#[derive(Drop)]
+#[derive(Clone, Copy)]
 pub enum Moved {
     To(ReadPlace),
     Refused(u32),
 }
 
 // What a question says.
-#[derive(Drop)]
+#[derive(Clone, Copy)]
 pub enum Asked {
     Yes,
     No,

@@ -11,7 +11,7 @@ ghost use Rattle.bit_sink.specs.Holds.{Holds, limit};
 use stuffing::{is_guarded, store, zeros_behind};
 
 // What was pushed so far. The lent output has the whole bytes.
-#[derive(Drop)]
+#[derive(Clone, Copy)]
 pub struct Sink {
     // the bits of the RBSP
     pub bits: usize,
@@ -41,7 +41,7 @@ impl Sink {
 }
 
 // Where the stored bytes end: in so many zeros, and before this place.
-#[derive(Drop)]
+#[derive(Clone, Copy)]
 struct End {
     zeros: u32,
     len: usize,

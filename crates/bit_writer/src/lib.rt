@@ -9,13 +9,13 @@ ghost use Rattle.bit_writer.specs.Answers.{Writes};
 use refusals::{NOT_WELL_FORMED, OUTPUT_TOO_SHORT};
 
 // A place among the bits of a lent buffer, counted from its first.
-#[derive(Drop)]
+#[derive(Clone, Copy)]
 pub struct WritePlace {
     pub bit_pos: usize,
 }
 
 // What a step of the writer says. A refusal leaves place and buffer as they were.
-#[derive(Drop)]
+#[derive(Clone, Copy)]
 pub enum Wrote {
     // the place behind what was written
     To(WritePlace),

@@ -20,7 +20,7 @@ const CODE: u8 = 3;
 const ALIGNMENT: u8 = 4;
 
 // What a step is to say.
-#[derive(Drop)]
+#[derive(Clone, Copy)]
 pub struct Expected {
     pub number: u32,
     pub value: u32,

@@ -8,14 +8,14 @@ use bit_reader::{Moved, Read};
 use rbsp_reader::BitReader;
 
 // What a step with a value gives: its answer, and where the reader stands then.
-#[derive(Drop)]
+#[derive(Clone, Copy)]
 pub struct ReadStep {
     pub answer: Read,
     pub bit_pos: usize,
 }
 
 // The same for a step without a value.
-#[derive(Drop)]
+#[derive(Clone, Copy)]
 pub struct MovedStep {
     pub answer: Moved,
     pub bit_pos: usize,

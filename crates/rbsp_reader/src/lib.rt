@@ -7,7 +7,7 @@ ghost use Rattle.rbsp_reader.specs.Places.{taken_place, moved_place, stands_at};
 use bit_reader::{Moved, Read, ReadPlace};
 
 // The bytes of an RBSP, and a place among its bits.
-#[derive(Drop)]
+#[derive(Clone, Copy)]
 pub struct BitReader<'a> {
     pub bytes: &'a [u8],
     pub bit_pos: usize,

@@ -12,7 +12,7 @@ use read_steps::{Cursor, Took};
 use refusals::{DPB_BUFFERING, DPB_DEPTH, DPB_INDEX, DPB_MAX_TID, DPB_REORDER, DPB_SLOTS};
 
 // One sublayer's numbers, and the cursor behind them.
-#[derive(Drop)]
+#[derive(Clone, Copy)]
 pub struct Triple {
     pub row: [u32; 3],
     pub next: Cursor,

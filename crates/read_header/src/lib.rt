@@ -34,7 +34,7 @@ pub fn take_within(bytes: &[u8], rec: &mut [u32], c: Cursor, width: u32, most: u
     }
 }
 
-#[derive(Drop)]
+#[derive(Clone, Copy)]
 pub struct HeaderRead {
     pub header: Header,
     pub next: Cursor,

@@ -8,7 +8,7 @@ use refusals::{SCHEDULE_COUNT, TIMING_ZERO};
 use vps_entries::Hrd;
 
 // What the schedules go by, and the cursor behind it.
-#[derive(Drop)]
+#[derive(Clone, Copy)]
 pub struct TookHrd {
     pub hrd: Hrd,
     pub next: Cursor,

@@ -13,7 +13,7 @@ use refusals::{LAYER_IDS_NOT_RISING, NO_DIRECT_REFERENCE};
 use vps_header::Header;
 
 // The layers whose flag is 1, and the cursor behind the flags.
-#[derive(Drop)]
+#[derive(Clone, Copy)]
 pub struct Flags {
     pub mask: u64,
     pub next: Cursor,
@@ -93,7 +93,7 @@ fn read_references(
 }
 
 // A layer that was read: the least id of the next, and the layers that it refers to directly.
-#[derive(Drop)]
+#[derive(Clone, Copy)]
 struct LayerRead {
     least: u32,
     mask: u64,

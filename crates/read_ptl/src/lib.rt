@@ -10,7 +10,7 @@ use read_steps::{Cursor, Took};
 use refusals::{PTL_ALIGNMENT, PTL_MAX_TID, PTLS_OVER_SETS};
 
 // What is coded of a slot before all slots, and the cursor behind it.
-#[derive(Drop)]
+#[derive(Clone, Copy)]
 struct SlotHead {
     present: u32,
     max_tid: u32,

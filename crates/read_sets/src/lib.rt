@@ -48,7 +48,7 @@ fn read_row(bytes: &[u8], rec: &mut [u32], c: Cursor, n: usize) -> Flags
 }
 
 // T and M, and the cursor behind the sets.
-#[derive(Drop)]
+#[derive(Clone, Copy)]
 struct RowsRead {
     total: u32,
     multi: u32,
@@ -156,7 +156,7 @@ fn read_set_rows(
 }
 
 // The output layer sets: T of them in all, M with more than one layer; and where they start in the record.
-#[derive(Drop)]
+#[derive(Clone, Copy)]
 pub struct SetsRead {
     pub each_layer_flag: u32,
     pub mode_idc: u32,

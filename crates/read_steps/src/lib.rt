@@ -7,7 +7,7 @@ use refusals::NOT_WELL_FORMED;
 
 // Where a reading is: the bit place, the record's next number, and the refusal that stopped it, or 0. The last field holds
 // nothing: it fills the struct to whole words, which compilers move faster than one with a gap.
-#[derive(Drop)]
+#[derive(Clone, Copy)]
 pub struct Cursor {
     pub at: usize,
     pub n: usize,
@@ -16,7 +16,7 @@ pub struct Cursor {
 }
 
 // A number that was read, and the cursor behind it.
-#[derive(Drop)]
+#[derive(Clone, Copy)]
 pub struct Took {
     pub v: u32,
     pub next: Cursor,

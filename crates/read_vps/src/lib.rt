@@ -61,7 +61,7 @@ fn read_timing_if(
 }
 
 // The DPB and the timing section: the sublayer flag of the first, and where each starts.
-#[derive(Drop)]
+#[derive(Clone, Copy)]
 struct Buffers {
     flag: u32,
     dpb: usize,
@@ -133,7 +133,7 @@ fn read_buffer_sections(
 }
 
 // What the record's General section keeps, where each other section starts, and the cursor behind the extension flag.
-#[derive(Drop)]
+#[derive(Clone, Copy)]
 pub struct Whole {
     pub header: Header,
     pub each_layer_flag: u32,

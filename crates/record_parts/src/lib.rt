@@ -3,7 +3,7 @@ ghost use Rattle.std.specs.Prelude.{◌≡◌, ◌-◌, length, get_or};
 ghost use Rattle.vps_definition.specs.Record.{start_of, end_of};
 
 // A record: how many numbers its parts have, and how much it may hold.
-#[derive(Drop)]
+#[derive(Clone, Copy)]
 pub struct Record;
 
 impl Record {

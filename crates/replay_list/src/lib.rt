@@ -15,7 +15,7 @@ pub fn print_count(word: &[u8], count: u64) {
 }
 
 // What the next record is.
-#[derive(Drop)]
+#[derive(Clone, Copy)]
 pub enum Next {
     // a case: its tag, and the length of its content
     Case(u8, usize),
@@ -58,7 +58,7 @@ pub fn read_record(content: &mut [u8], count: u64) -> Next {
 }
 
 // What a record was.
-#[derive(Drop)]
+#[derive(Clone, Copy)]
 pub enum Replayed {
     // a case whose answers are those recorded
     Same,

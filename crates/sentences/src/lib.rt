@@ -58,7 +58,7 @@ const BLANK: u8 = b' ';
 const SENTENCE_BYTES: usize = 3 * words::WORD_BYTES - 1;
 
 // What putting a sentence into a lent output says. A refusal leaves the output as it was.
-#[derive(Drop)]
+#[derive(Clone, Copy)]
 pub enum Worded {
     // so many bytes were written; those behind them are as before
     Done(usize),

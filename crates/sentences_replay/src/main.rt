@@ -11,7 +11,7 @@ use replay_parts::behind;
 const PAGE_BYTES: usize = 16384;
 
 // What the rows of a page come to.
-#[derive(Drop)]
+#[derive(Clone, Copy)]
 struct Counts {
     rows: u32,
     bytes: u32,

@@ -8,7 +8,7 @@ ghost use Rattle.stuffing.specs.Answers.{Lends};
 use refusals::OUTPUT_TOO_SHORT;
 
 // What adding or removing says. A refusal leaves the output as it was.
-#[derive(Drop)]
+#[derive(Clone, Copy)]
 pub enum Stuffed {
     // so many bytes were written; those behind them are as before
     Done(usize),

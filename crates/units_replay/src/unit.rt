@@ -9,7 +9,7 @@ use replay_parts::{behind, byte_at, first};
 use vps_reader::{Parsed, parse_vps};
 
 // What the reader is to say.
-#[derive(Drop)]
+#[derive(Clone, Copy)]
 struct Expected {
     number: u32,
     length: usize,

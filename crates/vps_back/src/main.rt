@@ -19,7 +19,7 @@ const RECORD_NUMBERS: usize = 8192;
 const OUTPUT_BYTES: usize = 6146;
 
 // What is said of a unit.
-#[derive(Drop)]
+#[derive(Clone, Copy)]
 enum Back {
     // the reader's refusal
     NotRead(u32),

@@ -4,7 +4,7 @@ ghost use Rattle.vps_definition.specs.DpbParameters.{sublayers, index_coded, ind
 ghost use Rattle.vps_definition.specs.TimingHrd.{hrd_present};
 
 // What the schedules go by: the flags of general_timing_hrd_parameters() and its schedule count.
-#[derive(Drop)]
+#[derive(Clone, Copy)]
 pub struct Hrd {
     pub nal: u32,
     pub vcl: u32,

@@ -3,7 +3,7 @@ ghost use Rattle.std.specs.Prelude.{◌≡◌, ◌&&◌, cond, ◌-◌, eqb};
 ghost use Rattle.vps_header.specs.AtMost.{AtMost};
 
 // The first fields of a VPS.
-#[derive(Drop)]
+#[derive(Clone, Copy)]
 pub struct Header {
     pub id: u32,
     pub layers: u32,

@@ -21,7 +21,7 @@ use refusals::{NOT_A_VPS, RBSP_TOO_LONG, UNIT_TOO_SHORT, WORK_TOO_SHORT};
 use stuffing::Stuffed;
 
 // What reading says. Any refusal leaves the record as it was.
-#[derive(Drop)]
+#[derive(Clone, Copy)]
 pub enum Parsed {
     // the record's length, and the bits used; the numbers behind the record are as before
     Accepted(usize, usize),
@@ -42,7 +42,7 @@ impl Parsed {
 }
 
 // What the first pass finds: a refusal, or the table's fields, how many extension bits there are, and the bits used.
-#[derive(Drop)]
+#[derive(Clone, Copy)]
 enum Measured {
     Refused(u32),
     Read(Whole, usize, usize),

@@ -11,7 +11,7 @@ use write_end::Ended;
 use write_steps::Place;
 
 // What writing says. A refusal leaves the output as it was.
-#[derive(Drop)]
+#[derive(Clone, Copy)]
 pub enum Written {
     // so many bytes were written; those behind them are as before
     Done(usize),

@@ -14,7 +14,7 @@ use record_parts::Record;
 use write_steps::Place;
 
 // How a writing ended: badly, or with so many bytes.
-#[derive(Drop)]
+#[derive(Clone, Copy)]
 pub struct Ended {
     pub bad: bool,
     pub len: usize,

@@ -60,7 +60,7 @@ pub fn put_within(rec: &[u32], out: &mut [u8], p: Place, width: u32, most: u32) 
     }
 }
 
-#[derive(Drop)]
+#[derive(Clone, Copy)]
 pub struct HeaderWritten {
     pub header: Header,
     pub next: Place,

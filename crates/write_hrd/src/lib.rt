@@ -7,7 +7,7 @@ use vps_entries::Hrd;
 use write_steps::Place;
 
 // What the schedules go by, and the place behind it.
-#[derive(Drop)]
+#[derive(Clone, Copy)]
 pub struct SentHrd {
     pub hrd: Hrd,
     pub next: Place,

@@ -12,7 +12,7 @@ use vps_header::Header;
 use write_steps::{Place, Sent};
 
 // The layers whose flag is 1, and the place behind the flags.
-#[derive(Drop)]
+#[derive(Clone, Copy)]
 pub struct Flags {
     pub mask: u64,
     pub next: Place,
@@ -92,7 +92,7 @@ fn write_references(
 }
 
 // A layer that was written: the least id of the next, and the layers that it refers to directly.
-#[derive(Drop)]
+#[derive(Clone, Copy)]
 struct LayerWritten {
     least: u32,
     mask: u64,

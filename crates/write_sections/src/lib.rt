@@ -43,7 +43,7 @@ fn write_timing_if(
 }
 
 // The DPB and the timing section: the sublayer flag of the first, and where each starts.
-#[derive(Drop)]
+#[derive(Clone, Copy)]
 pub struct Buffers {
     pub flag: u32,
     pub dpb: usize,

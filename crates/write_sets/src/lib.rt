@@ -47,7 +47,7 @@ fn write_row(rec: &[u32], out: &mut [u8], p: Place, n: usize) -> Flags
 }
 
 // T and M, and the place behind the sets.
-#[derive(Drop)]
+#[derive(Clone, Copy)]
 struct RowsWritten {
     total: u32,
     multi: u32,
@@ -155,7 +155,7 @@ fn write_set_rows(
 }
 
 // The output layer sets: T of them in all, M with more than one layer; and where they start in the record.
-#[derive(Drop)]
+#[derive(Clone, Copy)]
 pub struct SetsWritten {
     pub each_layer_flag: u32,
     pub mode_idc: u32,

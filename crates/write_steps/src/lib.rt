@@ -10,7 +10,7 @@ use record_parts::Record;
 
 // Where a writing is: the record's next number, the sink, and whether the record was found not well formed or too long. The
 // spare fields hold nothing: they fill the struct to whole words, which compilers move faster than one with a gap.
-#[derive(Drop)]
+#[derive(Clone, Copy)]
 pub struct Place {
     pub c: usize,
     pub sink: Sink,
@@ -37,7 +37,7 @@ impl Place {
 }
 
 // A number that was written, and the place behind it.
-#[derive(Drop)]
+#[derive(Clone, Copy)]
 pub struct Sent {
     pub v: u32,
     pub next: Place,

@@ -49,7 +49,7 @@ fn write_buffers(
 }
 
 // What the record's General section must be, where each other section starts, and the place behind the extension flag.
-#[derive(Drop)]
+#[derive(Clone, Copy)]
 pub struct Whole {
     pub header: Header,
     pub each_layer_flag: u32,
