@@ -94,22 +94,22 @@ pub data Reads {A : Type 0} : Syntax A → List ℕ → ℕ → A → List Token
 
 pub run_reads : {A : Type 0} {a : A} {t : List Token} {next : ℕ} (m : Syntax A) (s : List ℕ) (at : ℕ) → run m s at ≡ accepted a t next → Reads m s at a t next
 unfolding run
-run_reads {a} {next} (field w plus k) s at e =
+run_reads {a} {t} {next} (field w plus k) s at e =
     let v : ℕ = field_at s at w + plus in
     let K = keeping_accepted (number v) (run (k v) s (at + w)) e in
-    subst (λ (l : List Token). Reads (field w plus k) s at a l next) (sym K.all) (read_field (run_reads (k v) s (at + w) K.inner))
-run_reads {a} {next} (code plus k) s at e =
+    subst (λ (l : List Token). Reads (field w plus k) s at a l next) (sym K.all) (read_field (run_reads {t = K.rest} (k v) s (at + w) K.inner))
+run_reads {a} {t} {next} (code plus k) s at e =
     let C = code_accepted (code_at s at) (λ v q. keeping (number (v + plus)) (run (k (v + plus)) s q)) e in
     let v : ℕ = C.value + plus in
     let K = keeping_accepted (number v) (run (k v) s C.behind) C.inner in
-    subst (λ (l : List Token). Reads (code plus k) s at a l next) (sym K.all) (read_code C.is (run_reads (k v) s C.behind K.inner))
+    subst (λ (l : List Token). Reads (code plus k) s at a l next) (sym K.all) (read_code C.is (run_reads {t = K.rest} (k v) s C.behind K.inner))
 run_reads (late w find k) s at e = read_late (run_reads (k (field_at s at w)) s (at + w) e)
-run_reads {a} {next} (keep v m) s at e =
+run_reads {a} {t} {next} (keep v m) s at e =
     let K = keeping_accepted (number v) (run m s at) e in
-    subst (λ (l : List Token). Reads (keep v m) s at a l next) (sym K.all) (read_keep (run_reads m s at K.inner))
-run_reads {a} {next} (mark m) s at e =
+    subst (λ (l : List Token). Reads (keep v m) s at a l next) (sym K.all) (read_keep (run_reads {t = K.rest} m s at K.inner))
+run_reads {a} {t} {next} (mark m) s at e =
     let K = keeping_accepted section (run m s at) e in
-    subst (λ (l : List Token). Reads (mark m) s at a l next) (sym K.all) (read_mark (run_reads m s at K.inner))
+    subst (λ (l : List Token). Reads (mark m) s at a l next) (sym K.all) (read_mark (run_reads {t = K.rest} m s at K.inner))
 run_reads (align zero m) s at e = pass_align (run_reads m s (at + to_boundary at) e)
 run_reads (align (suc n) m) s at e =
     let G = guard_accepted (eqb (field_at s at (to_boundary at)) 0) (suc n) (run m s (at + to_boundary at)) e in

@@ -49,7 +49,7 @@ turn_refusal {y = y} {n = n} {middle = middle} {t = t} {u = u} f (suc j) (suc tu
     let B = run_bound (f i x) (loop f j (i + 1)) s at e in
     let k : i + 1 + j ≡ i + suc j = omega arith in
     later_refusal (f i x) (loop f turns (i + 1)) s at B.first
-    (turn_refusal f j turns (i + 1) B.result s B.middle (omega arith) B.second (ap (λ (k : ℕ). run (f k y) s middle) k ∙ g))
+    (turn_refusal {t = B.behind} f j turns (i + 1) B.result s B.middle (omega arith) B.second (ap (λ (k : ℕ). run (f k y) s middle) k ∙ g))
     ∙ ap (refused n) (sym (append_assoc B.before B.behind u) ∙ ap (λ (l : List Token). l ++ u) (sym B.both))
 
 -- ── A unit ────────────────────────────────────────────────────────────
