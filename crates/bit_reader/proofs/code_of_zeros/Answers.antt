@@ -1,0 +1,23 @@
+-- 32 zeros are no code; fewer, up to the end, are the prefix of one.
+use Prim.Native.Nat.{◌*◌, ◌-◌}
+use mathlib.Core.Path.{◌≡◌, sym, ◌∙◌}
+use native.Mathlib.Omega.{arith}
+use lib.ListN.{length}
+use lib.Pow.{pow_pos}
+use Rattle.bit_reader.proofs.Steps.{width_short, width_le, one_shl, no_code, code_cut}
+use Rattle.bit_reader.proofs.code_of_zeros.Goals as goal
+
+pub returns-then-zeros-ge32 : goal.returns-then-zeros-ge32
+returns-then-zeros-ge32 c =
+    let n = 8 * length c.args.bytes.now - c.args.at in
+    sym (no_code c.args.bytes.now c.args.at c.requires.1 (omega (arith, width_le n)))
+
+pub overflow_sub-result : goal.overflow_sub-result
+overflow_sub-result c = omega (arith, one_shl c.bits_left-zeros.result 32 (omega arith), pow_pos c.bits_left-zeros.result)
+
+pub returns : goal.returns
+returns c =
+    let k = c.bits_left-zeros.result in
+    let n = 8 * length c.args.bytes.now - c.args.at in
+    let w : k ≡ n = c.bits_left-zeros.ensures ∙ width_short n (omega arith) in
+    rw (one_shl k 32 (omega arith)) (sym (code_cut c.args.bytes.now c.args.at k c.requires.1 (omega arith) w))

@@ -1,0 +1,10 @@
+-- No bits: nothing is counted, pending or stored.
+use mathlib.Core.Path.{refl}
+use lib.Dec.{lit<}
+use Rattle.bits.specs.Bits.{bits_of, pack}
+use Rattle.bit_sink.specs.SoFar.{stuffed_none}
+use Rattle.bit_sink.proofs.Sink.new.Goals as goal
+
+pub returns : goal.returns
+unfolding bits_of pack
+returns c lent = record { binary = tt; counted = refl; few = lit< tt; behind = refl; stuffed = stuffed_none 0 _ lent }

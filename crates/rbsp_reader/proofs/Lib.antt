@@ -1,3 +1,0 @@
-pub mod AfterMoved
-pub mod AfterRead
-pub mod Held
