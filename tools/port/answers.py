@@ -138,6 +138,8 @@ class Function:
         self.needs = {norm(a): b for a, b in v["needs"]}
         self.loops = {norm(l[0][0]): l for l in v["loops"]}
         self.said = []
+        # the lemmas that put back the `not` of a test
+        self.nots = set()
 
     def need(self, x):
         for q in (x, x.replace("overflow-", "", 1), x.replace("nonzero-", "", 1), x.replace("shape-of-", "same-length", 1)):
@@ -161,12 +163,19 @@ class Function:
                 if len(names) > 1 and int(rest[1]) < len(names):
                     rest[1] = names[int(rest[1])]
             return ".".join([root] + rest)
+        if s not in self.steps:
+            like = [q for q in self.steps if q.lower() == s.lower() or q == norm(rest[0]).lower().replace("is", "", 1)]
+            s = like[0] if len(like) == 1 else s
         if s in self.steps:
             new = self.steps[s]
             if len(rest) > 2 and rest[1] in ("ensures", "requires") and rest[2].isdigit() and s in self.callee:
                 names = self.clauses.get(self.callee[s], {}).get(rest[1], [])
                 if len(names) > 1 and int(rest[2]) < len(names):
                     rest[2] = names[int(rest[2])]
+            if new.startswith("if-not-") and rest[1:] in (["true"], ["false"]):
+                lemma = {"true": "not_from_false", "false": "not_from_true"}[rest[1]]
+                self.nots.add(lemma)
+                return f"({lemma} _ {root}.{new}.{rest[1]})"
             return ".".join([root, new] + rest[1:])
         self.said.append(f"no step {rest[0]}")
         return ".".join([root] + rest)
@@ -233,7 +242,7 @@ def convert(top, crate, path, key, names, clauses):
         rest = [l for l in lines[1:]]
         unfolding = [l for l in rest if l.startswith("unfolding")]
         rest = "\n".join(l for l in rest if not l.startswith("unfolding"))
-        m = re.match(rf"{re.escape(name)} c(?: κs)? =", rest)
+        m = re.match(rf"{re.escape(name)} (?:c|_)(?: κs)?((?: [^\s=]+| \([^()]*\)| {{[^{{}}]*}})*) =", rest)
         if not m:
             it.said.append(f"no equation of {name}: {rest[:60]}")
             continue
@@ -250,7 +259,7 @@ def convert(top, crate, path, key, names, clauses):
                 body = f"{lets} record {{ {fields} }}"
             else:
                 it.said.append(f"{new}: {len(own)} clauses")
-        answers.append("\n".join([f"pub {new} : goal.{new}"] + unfolding + [f"{new} c ={body}"]))
+        answers.append("\n".join([f"pub {new} : goal.{new}"] + unfolding + [f"{new} c{m[1]} ={body}"]))
     folder = os.path.dirname(path)
     module = f"Rattle.{crate}.proofs.{fn}"
     made = []
@@ -260,6 +269,8 @@ def convert(top, crate, path, key, names, clauses):
         made.append(("Invariants.antt", "\n".join(lines)))
     if answers:
         body = "\n\n".join(helpers + answers)
+        if it.nots:
+            uses = uses + [f"use Rattle.std.proofs.lemmas.Bool.{{{', '.join(sorted(it.nots))}}}"]
         lines = head + used(uses, body) + [f"use {module}.Goals as goal", "", body, ""]
         made.append(("Answers.antt", "\n".join(lines)))
     for name, text in made:
