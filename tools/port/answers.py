@@ -101,6 +101,33 @@ def split_lets(text):
     return text[:at], text[at:]
 
 
+def free(text, table):
+    """The text with its free names replaced; what a λ binds stays, up to the end of its parenthesis."""
+    out, i, bound = [], 0, [set()]
+    while i < len(text):
+        ch = text[i]
+        if ch in "([{":
+            bound.append(set(bound[-1]))
+        elif ch in ")]}":
+            bound.pop()
+        m = re.compile(r"λ ([^.]*)\.").match(text, i)
+        if m:
+            bound[-1] |= set(re.findall(NAME, re.sub(r":[^()]*", "", m[1])))
+            out.append(m[0])
+            i = m.end()
+            continue
+        m = re.compile(rf"{NAME}(?:\.{CHARS}+)*").match(text, i)
+        if m:
+            first, _, rest = m[0].partition(".")
+            new = table.get(first, first) if first not in bound[-1] else first
+            out.append(new + ("." + rest if rest else ""))
+            i = m.end()
+            continue
+        out.append(ch)
+        i += 1
+    return "".join(out)
+
+
 def used(uses, text):
     words = set(re.findall(NAME, text)) | set(re.findall(r"[^\w\s(){}.;,@\"«»\[\]:]+", text)) | ({"[]"} if "[]" in text else set())
     kept = []
@@ -214,7 +241,7 @@ class Function:
             self.said.append(f"{name} has {len(args)} arguments, {len(want)} are known: {args} {want}")
             return None
         table = dict(zip(args, want))
-        body = re.sub(rf"(?<![\w.\-'λ]){NAME}", lambda q: table.get(q[0], q[0]), body)
+        body = free(body, table)
         label = f"{kind}-{new}"
         extra = [l for l in lines[1:] if l.startswith("unfolding")]
         return f"abbrev pub {label} : goal.{label}\n{label} l ={body}"
