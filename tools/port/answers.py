@@ -101,6 +101,33 @@ def split_lets(text):
     return text[:at], text[at:]
 
 
+def free(text, table):
+    """The text with its free names replaced; what a λ binds stays, up to the end of its parenthesis."""
+    out, i, bound = [], 0, [set()]
+    while i < len(text):
+        ch = text[i]
+        if ch in "([{":
+            bound.append(set(bound[-1]))
+        elif ch in ")]}":
+            bound.pop()
+        m = re.compile(r"λ ([^.]*)\.").match(text, i)
+        if m:
+            bound[-1] |= set(re.findall(NAME, re.sub(r":[^()]*", "", m[1])))
+            out.append(m[0])
+            i = m.end()
+            continue
+        m = re.compile(rf"{NAME}(?:\.{CHARS}+)*").match(text, i)
+        if m:
+            first, _, rest = m[0].partition(".")
+            new = table.get(first, first) if first not in bound[-1] else first
+            out.append(new + ("." + rest if rest else ""))
+            i = m.end()
+            continue
+        out.append(ch)
+        i += 1
+    return "".join(out)
+
+
 def used(uses, text):
     words = set(re.findall(NAME, text)) | set(re.findall(r"[^\w\s(){}.;,@\"«»\[\]:]+", text)) | ({"[]"} if "[]" in text else set())
     kept = []
@@ -126,17 +153,24 @@ class Function:
     def __init__(self, key, names, clauses, me):
         self.key, self.v, self.clauses, self.me = key, names, clauses, me
         v = names
-        self.steps, self.callee, self.vars = {}, {}, {}
+        self.steps, self.callee, self.callee_of, self.vars = {}, {}, {}, {}
         for p in v["places"]:
             old, new = p[2]
             self.steps[norm(old)] = new
             if p[3]:
                 self.callee[norm(old)] = p[3]
+                self.callee_of[new] = p[3]
         for t in v["typed"]:
             for var, step in t:
                 self.vars.setdefault(norm(step), var)
         self.needs = {norm(a): b for a, b in v["needs"]}
         self.loops = {norm(l[0][0]): l for l in v["loops"]}
+        # what an arm binds and knows, by the older step and its path
+        self.arms = {}
+        for a in v["arms"]:
+            for field, step, path in a[2] if a else []:
+                if path:
+                    self.arms[norm(step), tuple(path)] = (a[0], field)
         self.said = []
         # the lemmas that put back the `not` of a test
         self.nots = set()
@@ -157,6 +191,10 @@ class Function:
         s = norm(rest[0])
         if s in self.vars and len(rest) > 1 and rest[1] == "given":
             return ".".join([root, "type_inv", self.vars[s]] + rest[2:])
+        for n in range(len(rest), 1, -1):
+            arm = self.arms.get((s, tuple(rest[1:n])))
+            if arm:
+                return ".".join([root, *arm] + rest[n:])
         if rest[0] in ("args", "ranges", "requires", "well_formed", "lifetimes"):
             if rest[0] == "requires" and len(rest) > 1 and rest[1].isdigit():
                 names = self.clauses.get(self.me, {}).get("requires", [])
@@ -203,7 +241,7 @@ class Function:
             self.said.append(f"{name} has {len(args)} arguments, {len(want)} are known: {args} {want}")
             return None
         table = dict(zip(args, want))
-        body = re.sub(rf"(?<![\w.\-'λ]){NAME}", lambda q: table.get(q[0], q[0]), body)
+        body = free(body, table)
         label = f"{kind}-{new}"
         extra = [l for l in lines[1:] if l.startswith("unfolding")]
         return f"abbrev pub {label} : goal.{label}\n{label} l ={body}"
@@ -259,6 +297,17 @@ def convert(top, crate, path, key, names, clauses):
                 body = f"{lets} record {{ {fields} }}"
             else:
                 it.said.append(f"{new}: {len(own)} clauses")
+        m2 = re.match(r"(.+)-requires((?:-.+)?)$", new)
+        callee = it.callee_of.get(m2[1] + m2[2]) if m2 else None
+        asked = clauses.get(callee, {}).get("requires", [])
+        if len(asked) > 1:
+            lets, value = split_lets(body)
+            parts = top_tuple(value)
+            if parts and len(parts) == len(asked):
+                fields = "; ".join(f"{n} = {q}" for n, q in zip(asked, parts))
+                body = f"{lets} record {{ {fields} }}"
+            else:
+                it.said.append(f"{new}: {len(asked)} clauses")
         answers.append("\n".join([f"pub {new} : goal.{new}"] + unfolding + [f"{new} c{m[1]} ={body}"]))
     folder = os.path.dirname(path)
     module = f"Rattle.{crate}.proofs.{fn}"
