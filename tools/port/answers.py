@@ -200,6 +200,8 @@ class Function:
                 names = self.clauses.get(self.me, {}).get("requires", [])
                 if len(names) > 1 and int(rest[1]) < len(names):
                     rest[1] = names[int(rest[1])]
+            if rest[0] in ("args", "ranges") and len(rest) > 1:
+                rest[1] = rest[1].replace("-", "_")
             return ".".join([root] + rest)
         if s not in self.steps:
             like = [q for q in self.steps if q.lower() == s.lower() or q == norm(rest[0]).lower().replace("is", "", 1)]

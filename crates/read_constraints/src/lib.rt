@@ -1,4 +1,6 @@
 // Reads general_constraints_info(), and fields of one width in a row.
+#![tactic(auto)]
+
 ghost use Rattle.std.specs.Prelude.{◌≡◌, ◌+◌, ◌<◌};
 ghost use Rattle.bits.specs.Bits.{field_at, field_width};
 ghost use Rattle.vps_definition.specs.Words.{when, repeat};

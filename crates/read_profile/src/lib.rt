@@ -1,4 +1,6 @@
 // Reads profile_tier_level(), a slot of the PTL section.
+#![tactic(auto)]
+
 ghost use Rattle.std.specs.Prelude.{◌≡◌, ◌+◌, ◌*◌, ◌<◌, ◌≤◌};
 ghost use Rattle.vps_definition.specs.Words.{when, sum};
 ghost use Rattle.vps_definition.specs.ProfileTierLevel.{reversed, profile_and_tier, sub_profiles, profile_tier_level};

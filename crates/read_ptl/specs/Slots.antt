@@ -1,17 +1,15 @@
 -- The VPS's PTL section: all heads are read, and once more one by one before their slots.
 use Prim.Native.Nat.{ℕ, suc, ◌+◌, ◌-◌, ◌≤◌, ◌<◌}
-use Rattle.std.specs.Prelude.{◌≡◌, refl, leb, eqb, get_or}
+use Rattle.std.specs.Prelude.{◌≡◌, refl, get_or}
 use Rattle.std.proofs.Common.{sym, ap, ap₂, ◌∙◌, subst, leb-true, length-append}
 use mathlib.Core.List.{List, [], ◌∷◌, ◌++◌}
 use native.Mathlib.Omega.{arith}
 use Rattle.std.proofs.Math.ListN.{length, get_or-append}
-use Rattle.refusals.specs.Number.{ptls_over_sets, ptl_alignment}
 use Rattle.vps_definition.specs.Syntax.{Syntax, ◌>>=◌, Token, numbers, Outcome, run}
 use Rattle.vps_definition.specs.Syntax.Outcome.{accepted}
-use Rattle.vps_definition.specs.Syntax.Syntax.{test, done}
-use Rattle.vps_definition.specs.Words.{u_minus1, inferred, check, aligned, loop}
+use Rattle.vps_definition.specs.Words.{loop}
 use Rattle.vps_definition.specs.ProfileTierLevel.{profile_tier_level}
-use Rattle.vps_definition.specs.Vps.{Header, Head, head, ptl_head, ptl_slot, ptl_section}
+use Rattle.vps_definition.specs.Vps.{Head, head, ptl_head, ptl_slot}
 use Rattle.vps_laws.specs.Bind.{Bound, run_bound}
 use Rattle.vps_laws.specs.Keeps.{Returns, keeps_bind, keeps_done, keeps_check, returns_bind}
 use Rattle.vps_laws.specs.Heads.{head_at, head_last, heads_longer}

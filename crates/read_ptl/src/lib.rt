@@ -1,4 +1,6 @@
 // Reads the VPS's section of profile, tier and level: the slots' heads, and the slots.
+#![tactic(auto)]
+
 ghost use Rattle.std.specs.Prelude.{List, [], ◌∷◌, ◌++◌, ℕ, ◌≤◌};
 ghost use Rattle.vps_definition.specs.Words.{loop};
 ghost use Rattle.vps_definition.specs.Vps.{Header, Head, head, ptl_section};
