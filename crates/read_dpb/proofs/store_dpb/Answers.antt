@@ -8,7 +8,7 @@ use Rattle.read_dpb.specs.Grid.{triples, length_triples, triples_at, none_stored
 use Rattle.read_dpb.proofs.store_dpb.Goals as goal
 
 pub returns-then-n-ge-LIMIT : goal.returns-then-n-ge-LIMIT
-returns-then-n-ge-LIMIT c l = none_stored c.args.rec.now c.args.n c.args.count (triples 7 c.args.t3) (λ h. absurd (omega (arith, l h, c.if-n-ge-LIMIT.true)))
+returns-then-n-ge-LIMIT c l = none_stored c.args.rec.now c.args.n c.args.count (triples 7 c.args.grid) (λ h. absurd (omega (arith, l h, c.if-n-ge-LIMIT.true)))
 
 pub loop-i-init : goal.loop-i-init
 loop-i-init c = (omega arith, refl)
@@ -36,7 +36,7 @@ loop-i-smaller c = omega arith
 
 pub loop-i-preserved : goal.loop-i-preserved
 loop-i-preserved c =
-    let grid = c.args.t3 in
+    let grid = c.args.grid in
     let i = c.loop-i.i in (
       omega arith,
       number_stored c.args.rec.now _ i _ (triples 7 grid) (omega (arith, length_triples 7 grid))
@@ -44,9 +44,9 @@ loop-i-preserved c =
     )
 
 pub shape_of-rec : goal.shape_of-rec
-shape_of-rec c = ap length c.loop-i.invariant.1 ∙ length-sets c.args.rec.now c.args.n (take c.loop-i.i (triples 7 c.args.t3))
+shape_of-rec c = ap length c.loop-i.invariant.1 ∙ length-sets c.args.rec.now c.args.n (take c.loop-i.i (triples 7 c.args.grid))
 
 pub returns : goal.returns
 returns c l =
     let e : c.loop-i.i ≡ c.args.count = omega arith in
-    c.loop-i.invariant.1 ∙ ap (λ (k : ℕ). sets c.args.rec.now c.args.n (take k (triples 7 c.args.t3))) e
+    c.loop-i.invariant.1 ∙ ap (λ (k : ℕ). sets c.args.rec.now c.args.n (take k (triples 7 c.args.grid))) e
