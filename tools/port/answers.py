@@ -285,7 +285,7 @@ def convert(top, crate, path, key, names, clauses):
             it.said.append(f"no equation of {name}: {rest[:60]}")
             continue
         body = rest[m.end():]
-        if body.strip() == "search rules":
+        if body.strip() == "search rules" and not unfolding:
             continue
         body = it.body(body)
         own = clauses.get(me, {}).get("ensures", [])

@@ -1,4 +1,6 @@
 // Sets of layers as 64-bit masks, one bit for each layer: single layers, unions, and what layers reach.
+#![tactic(auto)]
+
 ghost use Rattle.std.specs.Prelude.{◌≡◌, ◌||◌, set, get_or, ltb, eqb};
 ghost use Rattle.vps_definition.specs.OutputLayerSets.{count_below, with_reached};
 ghost use Rattle.layer_sets.specs.Masks.{mask_of, bit_of, bit_at};

@@ -1,4 +1,6 @@
 // The VPS's first fields, and small answers that the first fields, the layers and the output layer sets go by, for reader and writer alike.
+#![tactic(auto)]
+
 ghost use Rattle.std.specs.Prelude.{◌≡◌, ◌&&◌, cond, ◌-◌, eqb};
 ghost use Rattle.vps_header.specs.AtMost.{AtMost};
 

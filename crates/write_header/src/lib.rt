@@ -33,7 +33,7 @@ pub fn put_general_if(
 
 // vps_max_layers_minus1, which is one less than the record's first number; behind a bad place too it is 63 at the most.
 fn put_layers_minus1(rec: &[u32], out: &mut [u8], p: Place) -> Sent
-    ensures* { λ r. ⌜ (r.v ≤ 63) × Does (late 6 (λ r x. get_or r 0 0 - 1) done) rec.now p r.v r.next out.old out.new ⌝ }
+    ensures { (result.v ≤ 63) × Does (late 6 (λ r x. get_or r 0 0 - 1) done) rec.now p result.v result.next out.old out.new }
 {
     let t = write_fields::put_late(
         out,

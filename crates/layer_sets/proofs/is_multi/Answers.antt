@@ -3,11 +3,7 @@ use borrow.Author.Rules.{rules}
 use mathlib.Core.Path.{ap}
 use lib.Dec.{ltb}
 use Rattle.layer_sets.specs.MaskLaws.{ones_bits}
-use Rattle.layer_sets.proofs.is_multi.Statement.{statement}
-use Rattle.layer_sets.proofs.is_multi.Tie as tie
+use Rattle.layer_sets.proofs.is_multi.Goals as goal
 
-returns : tie.Need-returns
+pub returns : goal.returns
 returns c = ap (ltb 1) (ones_bits c.args.mask (search rules))
-
-pub is_multi_spec : {M : Type 1} → statement M
-is_multi_spec = tie.close (tie.spec returns)
