@@ -1,4 +1,6 @@
 // Reads the VPS's first fields, and fields that stay within their width behind a refusal too.
+#![tactic(auto)]
+
 ghost use Rattle.std.specs.Prelude.{◌≡◌, List, ℕ, ◌+◌, ◌^◌, ◌≤◌};
 ghost use Rattle.bits.specs.Bits.{field_width};
 ghost use Rattle.vps_definition.specs.Syntax.Syntax.{late, done};
