@@ -1,4 +1,6 @@
 // Writes the VPS's first fields, and fields that stay within their width behind a bad place too.
+#![tactic(auto)]
+
 ghost use Rattle.std.specs.Prelude.{◌≡◌, ◌+◌, ◌-◌, ◌^◌, ◌≤◌, get_or};
 ghost use Rattle.bits.specs.Bits.{field_width};
 ghost use Rattle.vps_definition.specs.Syntax.Syntax.{late, done};
