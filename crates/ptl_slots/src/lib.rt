@@ -1,4 +1,6 @@
 // Finds where the slots of the PTL section stand in a record, unchecked.
+#![tactic(auto)]
+
 ghost use Rattle.std.specs.Prelude.{◌≡◌, ◌+◌, ◌<◌, ◌^◌, eqb, length, get_or, drop};
 ghost use Rattle.vps_definition.specs.Words.{when, sum};
 ghost use Rattle.vps_definition.specs.ProfileTierLevel.{number_of, general_constraints_info, sub_profiles};
