@@ -1,4 +1,6 @@
 // The layers of a lent record as masks: which layers each one refers to, and which it reaches.
+#![tactic(auto)]
+
 ghost use Rattle.std.specs.Prelude.{◌≡◌, ◌+◌, ◌≤◌, min, drop};
 ghost use Rattle.vps_definition.specs.OutputLayerSets.{flagged};
 ghost use Rattle.vps_definition.specs.Layout.{firsts, flags_in, entry_length, flags_from};
