@@ -13,7 +13,7 @@ fn main() {
     println!("cargo:rerun-if-changed={}", archive.display());
     assert!(
         archive.is_file(),
-        "no {}: run `rt staticlib vps_c` at the top of the repository, or set TEGLYOVASH_ARCHIVE to the folder that has it",
+        "no {}: run `tools/archive/make` at the top of the repository, or set TEGLYOVASH_ARCHIVE to the folder that has it",
         archive.display()
     );
     println!("cargo:rustc-link-search=native={}", folder.display());

@@ -1,4 +1,6 @@
 // Bits and fields of a byte slice, at any place: total functions, to which bits past the end are 0.
+#![tactic(auto)]
+
 ghost use Rattle.std.specs.Prelude.{◌≡◌, true, ◌+◌, ◌*◌, ◌-◌, ◌/◌, ◌%◌, ◌^◌, ◌<◌, ◌≤◌, length, get_or};
 ghost use Rattle.bits.specs.Bits.{bit_at, field_at, field_width};
 ghost use Rattle.bit_fields.specs.Window.{window_start};

@@ -1,4 +1,6 @@
 // Steps of the bit writer on a place by its number: each gives where the place stands then, and 0 or the refusal's number.
+#![tactic(auto)]
+
 ghost use Rattle.std.specs.Prelude.{◌≡◌};
 ghost use Rattle.bits.specs.Bits.{bits_of};
 ghost use Rattle.bits.specs.Code.{code_of};

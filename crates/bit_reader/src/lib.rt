@@ -1,4 +1,6 @@
 // Reads bits, fields and codes of a byte slice from a place that goes in and comes back by value.
+#![tactic(auto)]
+
 ghost use Rattle.std.specs.Prelude.{◌≡◌, ◌*◌, ◌-◌, ◌^◌, ◌<◌, length};
 ghost use Rattle.bits.specs.Bits.{field_at, field_width};
 ghost use Rattle.bits.specs.Code.{code_at};

@@ -1,4 +1,6 @@
 // Takes fields and codes one after the other, packs and stuffs their bits, and stores the bytes in a lent output where they fit; it counts them in any case.
+#![tactic(auto)]
+
 ghost use Rattle.std.specs.Prelude.{◌≡◌, List, [], ◌∷◌, ◌++◌, ℕ, ◌+◌, ◌*◌, ◌^◌, ◌%◌, ◌<◌, ◌≤◌, length, replicate};
 ghost use Rattle.std.proofs.lemmas.List.Edits.{sets};
 ghost use Rattle.stuffing.specs.Stuffing.{stuff_behind, stuff};

@@ -1,5 +1,7 @@
 // Steps of the bit writer that move the caller's place: the place is lent by `&mut`, and a step leaves it behind what it wrote.
 // The work of each is that of `bit_outcomes`, on the place's number; the step itself only reads and stores that number.
+#![tactic(auto)]
+
 ghost use Rattle.bits.specs.Bits.{bits_of};
 ghost use Rattle.bits.specs.Code.{code_of};
 ghost use Rattle.bits.specs.Reading.{place_good};

@@ -1,4 +1,6 @@
 // Writes bits, fields and codes into a lent byte slice at a place that goes in and comes back by value.
+#![tactic(auto)]
+
 ghost use Rattle.std.specs.Prelude.{◌≡◌, true, ◌+◌, ◌*◌, ◌^◌, ◌<◌, ◌≤◌, length};
 ghost use Rattle.bits.specs.Bits.{weight, with_bit, set_bit, set_bits, bits_of};
 ghost use Rattle.bits.specs.Code.{code_of};

@@ -293,7 +293,7 @@ table =
     ∷ broken (set d 51 43)
     ∷ broken (set d 52 54)
     ∷ broken (set d 52 52)
-    -- d-timing
+    -- d_timing
     ∷ written d_timing 22 0x0071104000480002330000fcc00000fa40003a980880
     ∷ broken (set d_timing 43 2)
     ∷ broken (set d_timing 43 0)
@@ -353,7 +353,7 @@ table =
     ∷ broken (set d_timing 70 62)
     ∷ broken (set d_timing 71 73)
     ∷ broken (set d_timing 71 71)
-    -- d-nal
+    -- d_nal
     ∷ written d_nal 24 0x0071104000480002330000fcc00000fa40003a982003242d
     ∷ broken (set d_nal 43 2)
     ∷ broken (set d_nal 43 0)
@@ -427,7 +427,7 @@ table =
     ∷ broken (set d_nal 73 65)
     ∷ broken (set d_nal 74 76)
     ∷ broken (set d_nal 74 74)
-    -- d-vcl-du-two-schedules
+    -- d_vcl_du_two_schedules
     ∷ written d_vcl_du_two_schedules 30 0x0071104000480002330000fcc00000fa40003a9814000014214e22529c45
     ∷ broken (set d_vcl_du_two_schedules 43 2)
     ∷ broken (set d_vcl_du_two_schedules 43 0)
@@ -531,7 +531,7 @@ table =
     ∷ broken (set d_vcl_du_two_schedules 80 72)
     ∷ broken (set d_vcl_du_two_schedules 81 83)
     ∷ broken (set d_vcl_du_two_schedules 81 81)
-    -- d-sublayers
+    -- d_sublayers
     ∷ written d_sublayers 26 0x0071105000240040023300402300cff9800001f4800075301904
     ∷ broken (set d_sublayers 0 3)
     ∷ broken (set d_sublayers 0 1)
@@ -723,7 +723,7 @@ table =
     ∷ broken (set d_sublayers 80 72)
     ∷ broken (set d_sublayers 81 83)
     ∷ broken (set d_sublayers 81 81)
-    -- two-of-each
+    -- two_of_each
     ∷ written two_of_each 31 0x007110c0004844190010023300003300a55fe7959c00000fa40003a98040a9
     ∷ broken (set two_of_each 0 5)
     ∷ broken (set two_of_each 0 3)

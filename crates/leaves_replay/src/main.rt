@@ -1,4 +1,6 @@
 // Replays recorded answers on stuffing, reading bits and writing bits, and prints how many there are and how many differ.
+#![tactic(auto)]
+
 mod chain;
 mod content;
 mod reading;

@@ -1,4 +1,6 @@
 // Reads a bit, a field, a code, alignment or the trailing bits of an RBSP at a place, for callers that hold no reader.
+#![tactic(auto)]
+
 ghost use Rattle.std.specs.Prelude.{◌≡◌};
 ghost use Rattle.bits.specs.Reading.{read_field, read_code, read_alignment, read_trailing};
 ghost use Rattle.bit_reader.specs.Answers.{read_answer, moved_answer};

@@ -1,4 +1,6 @@
 // A reader that carries the bytes of an RBSP and its bit place: each step takes it apart and calls the bit reader on the two.
+#![tactic(auto)]
+
 ghost use Rattle.std.specs.Prelude.{◌≡◌};
 ghost use Rattle.bits.specs.Reading.{read_field, read_code, read_alignment, read_trailing};
 ghost use Rattle.bit_reader.specs.Answers.{read_answer, moved_answer};

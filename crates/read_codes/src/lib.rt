@@ -1,4 +1,6 @@
 // Reads codes of a syntax table, each from a cursor to the next, and stores what the record keeps of them.
+#![tactic(auto)]
+
 ghost use Rattle.std.specs.Prelude.{[], ◌∷◌};
 ghost use Rattle.vps_definition.specs.Words.{ue, ue_minus1, ue_if};
 ghost use Rattle.read_steps.specs.Meets.{Meets, Yields};

@@ -1,4 +1,6 @@
 // Reads picture buffers: dpb_parameters() and what the VPS says about each set's buffer.
+#![tactic(auto)]
+
 ghost use Rattle.std.specs.Prelude.{◌≡◌, ◌-◌, ◌≤◌, ◌<◌, take};
 ghost use Rattle.std.proofs.lemmas.List.Edits.{sets};
 ghost use Rattle.refusals.specs.Number.{dpb_max_tid};

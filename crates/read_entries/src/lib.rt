@@ -1,4 +1,6 @@
 // Reads what DPB slots, timing entries and sets share: indices into a table of entries, and an entry's max tid.
+#![tactic(auto)]
+
 ghost use Rattle.std.specs.Prelude.{◌≡◌, ℕ};
 ghost use Rattle.vps_definition.specs.Words.{loop};
 ghost use Rattle.vps_definition.specs.DpbParameters.{index};

@@ -1,4 +1,6 @@
 // Reads fields of a syntax table, each from a cursor to the next, and stores what the record keeps of them.
+#![tactic(auto)]
+
 ghost use Rattle.std.specs.Prelude.{◌≡◌, List, ℕ, ◌≤◌};
 ghost use Rattle.bits.specs.Bits.{field_width};
 ghost use Rattle.vps_definition.specs.Syntax.Syntax.{late, test, done};

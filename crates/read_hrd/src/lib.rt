@@ -1,4 +1,6 @@
 // Reads general_timing_hrd_parameters().
+#![tactic(auto)]
+
 ghost use Rattle.vps_definition.specs.TimingHrd.{general_timing_hrd};
 ghost use Rattle.read_steps.specs.Meets.{Meets};
 ghost use Rattle.vps_entries.specs.Hrd.{hrd_of, hrd_scales};

@@ -1,4 +1,6 @@
 // Reads sublayer_hrd_parameters(): the schedules of a sublayer.
+#![tactic(auto)]
+
 ghost use Rattle.vps_definition.specs.Words.{when};
 ghost use Rattle.vps_definition.specs.TimingHrd.{du_values, schedule, sublayer_hrd};
 ghost use Rattle.read_steps.specs.Meets.{Meets};

@@ -1,4 +1,6 @@
 // Reads the timing section of the VPS: its entries, and which entry each set has.
+#![tactic(auto)]
+
 ghost use Rattle.refusals.specs.Number.{timing_max_tid};
 ghost use Rattle.vps_definition.specs.Words.{repeat};
 ghost use Rattle.vps_definition.specs.DpbParameters.{per_sublayer};

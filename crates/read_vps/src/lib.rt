@@ -1,4 +1,6 @@
 // Reads the table of a VPS, section by section, with where each starts in the record.
+#![tactic(auto)]
+
 ghost use Rattle.std.specs.Prelude.{◌≡◌, List, [], ◌∷◌, ℕ, ◌≤◌};
 ghost use Rattle.vps_definition.specs.Words.{when};
 ghost use Rattle.vps_definition.specs.TimingHrd.{timing_section};

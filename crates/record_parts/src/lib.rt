@@ -1,4 +1,6 @@
 // A record's limits, and where its sections start and end, as its trailer says.
+#![tactic(auto)]
+
 ghost use Rattle.std.specs.Prelude.{◌≡◌, ◌-◌, length, get_or};
 ghost use Rattle.vps_definition.specs.Record.{start_of, end_of};
 

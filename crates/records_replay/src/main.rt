@@ -1,4 +1,6 @@
 // Replays recorded answers of the writer to records, and prints how many there are and how many differ.
+#![tactic(auto)]
+
 mod buffers;
 mod writing;
 

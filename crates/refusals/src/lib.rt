@@ -1,4 +1,5 @@
 // The numbers of the refusals, each with the condition that it names.
+#![tactic(auto)]
 
 // header: under 2 bytes
 pub const UNIT_TOO_SHORT: u32 = 1;

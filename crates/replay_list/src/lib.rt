@@ -1,10 +1,16 @@
 // Reads a list of recorded answers record by record; what a case was, and a printed count.
+#![tactic(auto)]
+
 ghost use Rattle.std.specs.Prelude.{◌≡◌};
 ghost use Rattle.replay_list.specs.Replayed.{replayed};
 
-use libc::{STDIN_FILENO, STDOUT_FILENO};
 use replay_numbers::two_bytes;
 use replay_parts::behind;
+
+// Standard input and output.
+const STDIN_FILENO: i32 = 0;
+
+const STDOUT_FILENO: i32 = 1;
 
 // Prints a word and a count.
 pub fn print_count(word: &[u8], count: u64) {

@@ -1,4 +1,6 @@
 // Numbers of a recorded case's content, and those that an output holds beforehand.
+#![tactic(auto)]
+
 ghost use Rattle.std.specs.Prelude.{◌≡◌, ◌-◌, ◌%◌, ◌<◌};
 ghost use Rattle.replay_numbers.specs.Numbers.{two, four, eight, number_at, place_behind};
 

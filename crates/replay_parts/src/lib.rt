@@ -1,4 +1,6 @@
 // Bytes and parts of a recorded case's content.
+#![tactic(auto)]
+
 ghost use Rattle.std.specs.Prelude.{◌≡◌, ◌<◌, get_or, take, drop};
 
 fn wide(b: u8) -> u32

@@ -1,4 +1,6 @@
 // Replays recorded answers of section lookup to records, and prints how many there are and how many differ.
+#![tactic(auto)]
+
 mod sections;
 
 use replay_list::{Next, Replayed};

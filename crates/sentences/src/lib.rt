@@ -1,4 +1,6 @@
 // The sentence of each refusal, three words, and the number back from the sentence alone.
+#![tactic(auto)]
+
 ghost use Rattle.std.specs.Prelude.{◌≤◌, ◌<◌, ◌≡◌, true, length, drop};
 ghost use Rattle.refusals.specs.Lent.{lent, output_after};
 ghost use Rattle.texts.specs.Text.{Puts};

@@ -47,7 +47,7 @@ over-8          \
 timing          \
 clock           \
 zero            \
-schedule_count  \
+schedule-count  \
 over-31         \
 entries         \
 duration        \

@@ -1,11 +1,15 @@
 // Reads docs/REFUSALS.md and holds the number and the sentence of each of its rows to the proved ones; prints how many rows and how
 // many bytes of sentences there are, how many rows differ, and how many numbers without a row have a sentence.
+#![tactic(auto)]
+
 mod page;
 mod row;
 
-use libc::STDIN_FILENO;
 use replay_list::print_count;
 use replay_parts::behind;
+
+// Standard input.
+const STDIN_FILENO: i32 = 0;
 
 // More bytes than the page has.
 const PAGE_BYTES: usize = 16384;

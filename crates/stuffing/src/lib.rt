@@ -1,4 +1,6 @@
 // Adds emulation prevention bytes to an RBSP and removes them from a NAL unit's payload.
+#![tactic(auto)]
+
 ghost use Rattle.std.specs.Prelude.{◌≤◌, ◌≡◌, leb, length, set};
 ghost use Rattle.std.proofs.lemmas.List.Edits.{sets};
 ghost use Rattle.stuffing.specs.Stuffing.{guarded, zeros_behind, unstuff, stuff};

@@ -1,4 +1,6 @@
 // Numbers in decimal digits, put into a lent text.
+#![tactic(auto)]
+
 ghost use Rattle.texts.specs.Text.{Puts};
 ghost use Rattle.text_numbers.specs.Decimal.{decimal};
 

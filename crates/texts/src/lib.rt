@@ -1,4 +1,6 @@
 // Text put into a lent slice from a place on: as much as there is room for, and the place behind it.
+#![tactic(auto)]
+
 ghost use Rattle.texts.specs.Text.{Puts};
 
 pub fn put(text: &mut [u8], at: usize, bytes: &[u8]) -> usize

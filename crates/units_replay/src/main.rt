@@ -1,4 +1,6 @@
 // Replays recorded answers of the reader to whole units, and prints how many there are and how many differ.
+#![tactic(auto)]
+
 mod buffers;
 mod unit;
 

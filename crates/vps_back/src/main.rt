@@ -1,13 +1,19 @@
 // Reads one unit from standard input, writes its record, and prints whether the bytes are the same.
+#![tactic(auto)]
+
 ghost use Rattle.std.specs.Prelude.{◌≡◌, take};
 ghost use Rattle.lists.specs.Same.{same};
 ghost use Rattle.vps_definition.specs.Writing.{write_record};
 ghost use Rattle.vps_back.specs.Back.{said, written_back, back};
 
-use libc::{STDIN_FILENO, STDOUT_FILENO};
 use refusals::RECORD_TOO_SHORT;
 use vps_reader::{Parsed, parse_vps};
 use vps_writer::{Written, write_vps_nal};
+
+// Standard input and output.
+const STDIN_FILENO: i32 = 0;
+
+const STDOUT_FILENO: i32 = 1;
 
 // The bytes of a unit, and of the work buffer.
 const UNIT_BYTES: usize = 4096;

@@ -1,5 +1,7 @@
 // Reading, writing, section lookup, byte stuffing and the sentences of refusals for C and other languages, by numbers and slices
 // alone: each function but the last gives 0, or a refusal's number, and stores what else it has to say where a reference points.
+#![tactic(auto)]
+
 ghost use Rattle.std.specs.Prelude.{◌≡◌, ◌+◌};
 ghost use Rattle.refusals.specs.Lent.{lent, output_after};
 ghost use Rattle.stuffing.specs.Stuffing.{unstuff, stuff};

@@ -1,4 +1,6 @@
 // What entries of the VPS go by: whether a number is coded, what it is otherwise, and how many sublayers an entry has.
+#![tactic(auto)]
+
 ghost use Rattle.std.specs.Prelude.{◌≡◌, ◌&&◌, ltb, eqb};
 ghost use Rattle.vps_definition.specs.DpbParameters.{sublayers, index_coded, index_inferred};
 ghost use Rattle.vps_definition.specs.TimingHrd.{hrd_present};

@@ -1,4 +1,6 @@
 // Reads a VPS unit into a lent record: a first pass measures, a second fills, by the same code.
+#![tactic(auto)]
+
 ghost use Rattle.std.specs.Prelude.{◌≡◌, List, [], ◌∷◌, ℕ, ◌+◌, ◌^◌, ◌≤◌, ◌<◌, ltb, length, get_or, set};
 ghost use Rattle.std.proofs.lemmas.List.Edits.{sets};
 ghost use Rattle.stuffing.specs.Stuffing.{unstuff};

@@ -1,4 +1,6 @@
 // Section lookup: the sections of a lent record, as parts of that record.
+#![tactic(auto)]
+
 ghost use Rattle.vps_sections.specs.Parts.{IsPart, PartOf};
 
 use record_parts::Record;

@@ -1,4 +1,6 @@
 // Reads one unit from standard input and prints its record, a line a section, or its refusal.
+#![tactic(auto)]
+
 ghost use Rattle.std.specs.Prelude.{◌≡◌, length};
 ghost use Rattle.lists.specs.Stored.{overlaid};
 ghost use Rattle.io.specs.Counts.{IsPrefixLen};
@@ -8,9 +10,13 @@ ghost use Rattle.vps_show.specs.Shown.{shown_unit, shown_input};
 mod shown;
 mod text;
 
-use libc::{STDIN_FILENO, STDOUT_FILENO};
 use texts::put;
 use vps_reader::parse_vps;
+
+// Standard input and output.
+const STDIN_FILENO: i32 = 0;
+
+const STDOUT_FILENO: i32 = 1;
 
 // The bytes of a unit, and of the work buffer.
 const UNIT_BYTES: usize = 4096;

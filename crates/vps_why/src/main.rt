@@ -1,4 +1,6 @@
 // Reads one unit from standard input and prints `accepted`, or the number of its refusal and the sentence.
+#![tactic(auto)]
+
 ghost use Rattle.std.specs.Prelude.{◌≡◌, length};
 ghost use Rattle.io.specs.Counts.{IsPrefixLen};
 ghost use Rattle.lists.specs.Stored.{overlaid};
@@ -6,11 +8,15 @@ ghost use Rattle.texts.specs.Text.{Puts};
 ghost use Rattle.vps_reader.specs.Answers.{parsed_answer};
 ghost use Rattle.vps_why.specs.Why.{refused_line, parsed_line, why};
 
-use libc::{STDIN_FILENO, STDOUT_FILENO};
 use sentences::put_sentence;
 use text_numbers::put_decimal;
 use texts::put;
 use vps_reader::{Parsed, parse_vps};
+
+// Standard input and output.
+const STDIN_FILENO: i32 = 0;
+
+const STDOUT_FILENO: i32 = 1;
 
 // One byte more than the longest unit that can be accepted: a longer one has the answer of its first so many bytes.
 const UNIT_BYTES: usize = 98305;

@@ -1,4 +1,6 @@
 // Writes a record as a VPS unit into a lent output: a first pass measures and makes a small unit, a second fills the output with a longer one, by the same code.
+#![tactic(auto)]
+
 ghost use Rattle.std.specs.Prelude.{◌≤◌, ◌≡◌, length, set, take};
 ghost use Rattle.std.proofs.lemmas.List.Edits.{sets};
 ghost use Rattle.vps_definition.specs.Writing.{write_record, well_formed};

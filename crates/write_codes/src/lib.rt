@@ -1,4 +1,6 @@
 // Writes codes of a syntax table, each from a place to the next, where the record has what they ask for.
+#![tactic(auto)]
+
 ghost use Rattle.std.specs.Prelude.{◌≡◌, ◌<◌, ltb, length};
 ghost use Rattle.bits.specs.Code.{code_of};
 ghost use Rattle.vps_definition.specs.Syntax.Syntax.{code, done};

@@ -1,4 +1,6 @@
 // Writes general_constraints_info(), and fields of one width in a row: as they stand, or last first.
+#![tactic(auto)]
+
 ghost use Rattle.std.specs.Prelude.{List, ℕ, drop};
 ghost use Rattle.bits.specs.Bits.{field_width};
 ghost use Rattle.vps_definition.specs.Words.{when, repeat, keeps};

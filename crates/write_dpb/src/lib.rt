@@ -1,4 +1,6 @@
 // Writes picture buffers: dpb_parameters() and what the VPS says about each set's buffer.
+#![tactic(auto)]
+
 ghost use Rattle.refusals.specs.Number.{dpb_max_tid};
 ghost use Rattle.vps_definition.specs.Words.{loop, repeat};
 ghost use Rattle.vps_definition.specs.DpbParameters.{dpb_sublayer, per_sublayer, ols_dpb, dpb_section};

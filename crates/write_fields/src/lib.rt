@@ -1,4 +1,6 @@
 // Writes fields of a syntax table, each from a place to the next, where the record has what they ask for.
+#![tactic(auto)]
+
 ghost use Rattle.std.specs.Prelude.{◌≡◌, List, true, ℕ, ◌^◌, ltb, drop};
 ghost use Rattle.bits.specs.Bits.{field_width, bits_of};
 ghost use Rattle.vps_definition.specs.Syntax.Syntax.{field, late, test, done};

@@ -1,4 +1,6 @@
 // Writes the VPS's first fields, and fields that stay within their width behind a bad place too.
+#![tactic(auto)]
+
 ghost use Rattle.std.specs.Prelude.{◌≡◌, ◌+◌, ◌-◌, ◌^◌, ◌≤◌, get_or};
 ghost use Rattle.bits.specs.Bits.{field_width};
 ghost use Rattle.vps_definition.specs.Syntax.Syntax.{late, done};
@@ -33,7 +35,7 @@ pub fn put_general_if(
 
 // vps_max_layers_minus1, which is one less than the record's first number; behind a bad place too it is 63 at the most.
 fn put_layers_minus1(rec: &[u32], out: &mut [u8], p: Place) -> Sent
-    ensures* { λ r. ⌜ (r.v ≤ 63) × Does (late 6 (λ r x. get_or r 0 0 - 1) done) rec.now p r.v r.next out.old out.new ⌝ }
+    ensures { (result.v ≤ 63) × Does (late 6 (λ r x. get_or r 0 0 - 1) done) rec.now p result.v result.next out.old out.new }
 {
     let t = write_fields::put_late(
         out,

@@ -1,4 +1,6 @@
 // Writes the VPS's layers; the layers that each layer reaches are kept as masks.
+#![tactic(auto)]
+
 ghost use Rattle.std.specs.Prelude.{◌≡◌, List, [], ◌∷◌, ◌++◌, ℕ, ◌+◌, ◌≤◌, eqb, length};
 ghost use Rattle.vps_definition.specs.Syntax.Syntax.{test};
 ghost use Rattle.vps_definition.specs.Words.{loop};

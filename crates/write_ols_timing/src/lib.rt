@@ -1,4 +1,6 @@
 // Writes ols_timing_hrd_parameters(): the sublayers of a timing entry.
+#![tactic(auto)]
+
 ghost use Rattle.vps_definition.specs.Words.{when, repeat};
 ghost use Rattle.vps_definition.specs.TimingHrd.{sublayer_hrd, timing_sublayer};
 ghost use Rattle.write_steps.specs.Does.{Does};

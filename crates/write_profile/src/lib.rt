@@ -1,4 +1,6 @@
 // Writes profile_tier_level(), a slot of the PTL section.
+#![tactic(auto)]
+
 ghost use Rattle.vps_definition.specs.Words.{when};
 ghost use Rattle.vps_definition.specs.ProfileTierLevel.{profile_and_tier, sub_profiles, profile_tier_level};
 ghost use Rattle.write_steps.specs.Does.{Does};

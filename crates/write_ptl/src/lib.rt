@@ -1,4 +1,6 @@
 // Writes the VPS's section of profile, tier and level: the slots' heads, which stand in the slots, and the slots.
+#![tactic(auto)]
+
 ghost use Rattle.std.specs.Prelude.{◌≡◌, [], cond, drop};
 ghost use Rattle.vps_definition.specs.Words.{loop};
 ghost use Rattle.vps_definition.specs.Vps.{Header, ptl_slot, ptl_section};

@@ -1,4 +1,6 @@
 // Writes the last sections of a VPS: each set's PTL index, its buffers and its timing, with where the last two start in the record.
+#![tactic(auto)]
+
 ghost use Rattle.std.specs.Prelude.{List, [], ◌∷◌, ℕ};
 ghost use Rattle.vps_definition.specs.Words.{when};
 ghost use Rattle.vps_definition.specs.TimingHrd.{timing_section};

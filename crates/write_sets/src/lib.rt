@@ -1,4 +1,6 @@
 // Writes the VPS's output layer sets, and counts them by the masks of the layers.
+#![tactic(auto)]
+
 ghost use Rattle.std.specs.Prelude.{◌≡◌, List, [], ℕ, ◌+◌, ◌<◌, ◌≤◌, eqb};
 ghost use Rattle.vps_definition.specs.Syntax.Syntax.{test};
 ghost use Rattle.vps_definition.specs.Words.{u_minus1, loop};

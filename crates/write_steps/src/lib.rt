@@ -1,4 +1,6 @@
 // A place in a record and a sink behind it, and the words of a syntax table that write no bits: each goes from a place to the next.
+#![tactic(auto)]
+
 ghost use Rattle.std.specs.Prelude.{◌≡◌, List, [], ℕ, ◌<◌};
 ghost use Rattle.bit_sink.specs.Holds.{limit};
 ghost use Rattle.vps_definition.specs.Words.{inferred, check};

@@ -1,0 +1,20 @@
+-- Each turn is a set; a bad place ends the turns.
+use Prim.Native.Nat.{◌-◌}
+use Rattle.write_steps.specs.Turns.{turned_none, turned_more, turned_stop, turned_all}
+use borrow.Author.Rules.{rules}
+use Rattle.write_dpb.proofs.write_ols_dpbs.Goals as goal
+
+pub loop-i-init : goal.loop-i-init
+loop-i-init c = turned_none
+
+pub shape_of-out-then-at : goal.shape_of-out-then-at
+shape_of-out-then-at c = search (rules, c.write_ols_dpb-at)
+
+pub returns-then-at : goal.returns-then-at
+returns-then-at c = turned_stop c.loop-i.invariant c.loop-i-test.true c.write_ols_dpb-at.ensures c.if-at.true
+
+pub loop-i-preserved : goal.loop-i-preserved
+loop-i-preserved c = turned_more c.loop-i.invariant c.loop-i-test.true (search rules) c.write_ols_dpb-at.ensures
+
+pub returns : goal.returns
+returns c = turned_all c.loop-i.invariant c.loop-i-test.false
