@@ -165,6 +165,8 @@ class Function:
                 self.vars.setdefault(norm(step), var)
         self.needs = {norm(a): b for a, b in v["needs"]}
         self.loops = {norm(l[0][0]): l for l in v["loops"]}
+        # parameters that are called otherwise now
+        self.params = {tuple(a.strip(".").split(" .")): tuple(b.strip(".").split(" .")) for a, b in v["args"]}
         # what an arm binds and knows, by the older step and its path
         self.arms = {}
         for a in v["arms"]:
@@ -191,6 +193,8 @@ class Function:
         s = norm(rest[0])
         if s in self.vars and len(rest) > 1 and rest[1] == "given":
             return ".".join([root, "type_inv", self.vars[s]] + rest[2:])
+        if tuple(rest[:2]) in self.params:
+            rest[:2] = self.params[tuple(rest[:2])]
         for n in range(len(rest), 1, -1):
             arm = self.arms.get((s, tuple(rest[1:n])))
             if arm:
