@@ -1,0 +1,18 @@
+-- The table's number, and as many fields.
+use Rattle.vps_definition.specs.ProfileTierLevel.{sub_profile, sub_profiles}
+use Rattle.vps_definition.specs.Words.{nothing, when}
+use Rattle.write_steps.specs.Laws.{does_then, does_done, does_yes, does_no}
+use borrow.Author.Tests.{eq-eqb, ne_eqb}
+use borrow.Author.Rules.{rules}
+use Rattle.write_profile.proofs.write_sub_profiles.Goals as goal
+
+pub returns-then-present-eq0 : goal.returns-then-present-eq0
+unfolding when nothing
+returns-then-present-eq0 c = does_yes (eq-eqb _ _ c.if-present-eq0.true) does_done
+
+pub shape_of-out : goal.shape_of-out
+shape_of-out c = search (rules, c.put-count, c.write_fields)
+
+pub returns : goal.returns
+unfolding when sub_profiles sub_profile
+returns c = does_no (ne_eqb _ _ c.if-present-eq0.false) (does_then _ _ c.put-count.ensures c.write_fields.ensures)
