@@ -200,7 +200,11 @@ def main(argv):
     edges = graph(modules, crate)
     roots = rejected(logs, modules)
     # a theorem of a where block stands under its owner
-    owners = {(m, n): b.name for m, (p, head, uses, blocks, _) in modules.items() for b in blocks for n in b.inner}
+    owners = {}
+    for m, (p, head, uses, blocks, _) in modules.items():
+        for b in blocks:
+            if b.kind == "module":
+                owners.update({(m, n): b.name for n in re.findall(rf"^  (?:pub |abbrev |unfoldable )*(?:record |data )?({NAME})(?: \{{[^{{}}]*\}})* :", b.bare(), re.M)})
     for m, (p, head, uses, blocks, _) in modules.items():
         for b in blocks:
             for n in re.findall(rf"^\s+(?:pub )?({NAME})(?: \{{[^{{}}]*\}})* :", b.bare(), re.M):
@@ -224,14 +228,34 @@ def main(argv):
                     opened |= {(m, n) for n in line.split()}
                 for n in re.findall(r"rw \(([^()]*)\)", b.bare()):
                     pass
+    # what has to be seen from outside: what the moved ones name, the types of its statements, and a rule set's members
+    seen = {d for e in moved for d in edges[e] if d not in moved}
+    again = True
+    while again:
+        again = False
+        for m, (p, head, uses, blocks, _) in modules.items():
+            for b in blocks:
+                if (m, b.name) in moved or (m, b.name) not in seen:
+                    continue
+                said = b.bare() if b.kind in ("record", "data", "ruleset") else re.split(r"\n(?=\S)", b.bare().strip())[0]
+                for w in set(re.findall(NAME, said)):
+                    for c in blocks:
+                        if c.name == w and (m, w) not in seen and (m, w) not in moved and c.kind != "module":
+                            seen.add((m, w))
+                            again = True
     for m in modules:
         p, head, uses, blocks, tail = modules[m]
+        if m not in taken:
+            continue
         for b in blocks:
             if (m, b.name) in moved:
                 continue
-            if b.kind == "record" and any((m, b.name) in edges[d] for d in moved):
+            if b.kind == "record" and (m, b.name) in seen:
                 b.lines = [re.sub(rf"^(  )(?!pub )({NAME}(?: \{{[^{{}}]*\}})* :)", r"\1pub \2", l) for l in b.lines]
-            needed = any(m2 == m and (m, b.name) in edges[m2, n2] for m2, n2 in moved)
+            needed = (m, b.name) in seen
+            if b.kind == "module" and needed:
+                wanted = {w for c in blocks if (m, c.name) in moved for w in c.words()} & b.inner
+                b.lines = [re.sub(rf"^  ((?:abbrev |unfoldable )*)(?=({NAME})(?: \{{[^{{}}]*\}})* :)", lambda q: f"  {q[1]}pub " if q[2] in wanted else q[0], l) for l in b.lines]
             for i, l in enumerate(b.lines):
                 s = START.match(l)
                 if not s and OTHER.match(l) and OTHER.match(l)[2] == b.name and needed and not l.startswith("pub "):
@@ -246,27 +270,55 @@ def main(argv):
                     order = [w for w in ("abbrev", "unfoldable", "pub") if w in words]
                     b.lines[i] = " ".join(order + [""] if order else []) + l[len(s[1]):] if order else l
                     break
+    # a theorem that an edit changes stands in another file than what rests on it
+    edited = set()
+    edits = {}
+    for e in sorted(glob.glob(f"crates/{crate}/must-fail/*.edit")):
+        with open(e, encoding="utf-8") as f:
+            edits[e] = f.read()
+        path = ""
+        for l in edits[e].split("\n"):
+            path = l[6:] if l.startswith("file: ") else path
+            if l.startswith("old: ") and path.startswith("specs/"):
+                m = os.path.basename(path)[:-5]
+                edited |= {(m, b.name) for b in modules[m][3] if l[5:] in b.text() and (m, b.name) in moved}
+    level = {}
+
+    def level_of(d):
+        if d not in level:
+            level[d] = 0
+            level[d] = max([level_of(e) + (e in edited) for e in edges[d] if e in moved and e[0] == d[0]] + [0])
+        return level[d]
+
+    place = {d: d[0] + ("" if level_of(d) == 0 else "Then" if level_of(d) == 1 else f"Then{level_of(d)}") for d in moved}
     listed = []
+    rank = lambda n: (n in taken and "" or re.sub(r"Then\d*$", "", n), n)
     for m in sorted(taken):
         p, head, uses, blocks, tail = modules[m]
         stay = [b for b in blocks if (m, b.name) not in moved]
-        go = [b for b in blocks if (m, b.name) in moved]
-        text = "\n\n".join(b.text() for b in go)
-        bare = "\n".join(b.bare() for b in go)
-        own = []
-        words = set(re.findall(NAME, bare))
-        plain = [n for b in stay for n in ([b.name] if b.kind != "module" else sorted(b.inner)) if n in words or n.strip("◌") in bare and "◌" in n]
-        if plain:
-            own.append(f"use Rattle.{crate}.specs.{m}.{{{', '.join(plain)}}}")
-        for b in stay:
-            if b.kind == "data" and b.inner & words:
-                own.append(f"use Rattle.{crate}.specs.{m}.{b.name}.{{{', '.join(sorted(b.inner & words))}}}")
-        lines = head + kept_uses(uses, bare) + own + ["", text, ""]
-        target = f"crates/{crate}/proofs/{m}.antt"
-        if os.path.exists(target):
-            raise SystemExit(f"{target} is there")
-        with open(target, "w", encoding="utf-8") as f:
-            f.write("\n".join(lines))
+        for target_module in sorted({place[m, b.name] for b in blocks if (m, b.name) in moved}, key=lambda n: (len(n), n)):
+            go = [b for b in blocks if (m, b.name) in moved and place[m, b.name] == target_module]
+            text = "\n\n".join(b.text() for b in go)
+            bare = "\n".join(b.bare() for b in go)
+            own = []
+            words = set(re.findall(NAME, bare))
+            plain = [n for b in stay for n in ([b.name] if b.kind != "module" else sorted(n for n in b.inner if re.search(rf"^  (?:abbrev |unfoldable )*pub (?:record |data )?{re.escape(n)} ", b.text(), re.M))) if n in words or n.strip("◌") in bare and "◌" in n]
+            if plain:
+                own.append(f"use Rattle.{crate}.specs.{m}.{{{', '.join(plain)}}}")
+            for b in stay:
+                if b.kind == "data" and b.inner & words:
+                    own.append(f"use Rattle.{crate}.specs.{m}.{b.name}.{{{', '.join(sorted(b.inner & words))}}}")
+            for other in sorted({place[m, b.name] for b in blocks if (m, b.name) in moved} - {target_module}):
+                brought = [b.name for b in blocks if (m, b.name) in moved and place[m, b.name] == other and b.name in words and any((m, b.name) in edges[m, c.name] for c in go)]
+                if brought:
+                    own.append(f"use Rattle.{crate}.proofs.{other}.{{{', '.join(brought)}}}")
+            target = f"crates/{crate}/proofs/{target_module}.antt"
+            if os.path.exists(target):
+                raise SystemExit(f"{target} is there")
+            with open(target, "w", encoding="utf-8") as f:
+                f.write("\n".join(head + kept_uses(uses, bare) + own + ["", text, ""]))
+            listed += [f"{target_module}: {b.name}" for b in go]
+            old_lib += f"pub mod {target_module}\n"
         rest = "\n".join(b.bare() for b in stay)
         if stay:
             with open(p, "w", encoding="utf-8") as f:
@@ -278,8 +330,6 @@ def main(argv):
                 t = f.read()
             with open(spec_lib, "w", encoding="utf-8") as f:
                 f.write(t.replace(f"pub mod {m}\n", ""))
-        listed += [f"{m}: {b.name}" for b in go]
-        old_lib += f"pub mod {m}\n"
     with open(lib, "w", encoding="utf-8") as f:
         f.write(old_lib)
     # a module that is not in this crate's taken ones is written where a word was added
@@ -291,6 +341,7 @@ def main(argv):
             if re.sub(r"\s+", " ", new) != re.sub(r"\s+", " ", was):
                 print(f"look: {p}")
     # the lines that import what moved
+    homes = {(m, n): place[m, b.name] for m, (p, head, uses, blocks, _) in modules.items() for b in blocks if (m, b.name) in moved for n in {b.name} | b.inner}
     names = {(m, n) for m, (p, head, uses, blocks, _) in modules.items() for b in blocks if (m, b.name) in moved for n in {b.name} | b.inner}
     for f in sorted(glob.glob("crates/*/src/*.rt") + glob.glob("crates/*/specs/*.antt") + glob.glob("crates/*/proofs/**/*.antt", recursive=True)):
         with open(f, encoding="utf-8") as it:
@@ -312,12 +363,30 @@ def main(argv):
             here = [x for x in all_names if x not in gone]
             if here:
                 out.append(f"{m[1]}Rattle.{crate}.specs.{m[2]}.{{{', '.join(here)}}}{m[4]}")
-            if gone:
-                out.append(f"{m[1]}Rattle.{crate}.proofs.{m[2]}.{{{', '.join(gone)}}}{m[4]}")
+            for home in sorted({homes[m[2], x.split(" as ")[0]] for x in gone}):
+                some = [x for x in gone if homes[m[2], x.split(" as ")[0]] == home]
+                out.append(f"{m[1]}Rattle.{crate}.proofs.{home}.{{{', '.join(some)}}}{m[4]}")
         new = "\n".join(out)
         if new != text:
             with open(f, "w", encoding="utf-8") as it:
                 it.write(new)
+    # an edit of what moved goes with it
+    for e, text in edits.items():
+        path, pairs, new = "", [], text
+        for l in text.split("\n"):
+            path = l[6:] if l.startswith("file: ") else path
+            if l.startswith("old: "):
+                pairs.append((path, l[5:]))
+        m = os.path.basename(pairs[-1][0])[:-5]
+        homes_of = {place[d] for d in edited if d[0] == m and pairs[-1][0].startswith("specs/") for b in modules[m][3] if b.name == d[1] and pairs[-1][1] in b.text()}
+        if not homes_of and pairs[-1][0].startswith("specs/") and m in taken and not any(pairs[-1][1] in b.text() for b in modules[m][3]):
+            print(f"look: {e}")
+        if homes_of:
+            new = text.replace(f"file: specs/{m}.antt", f"file: proofs/{homes_of.pop()}.antt")
+        if new != text:
+            with open(e, "w", encoding="utf-8") as f:
+                f.write(new)
+            print(f"edit: {e}")
     print(f"{crate}: {len(listed)} moved")
     print("\n".join(listed))
 
