@@ -4,7 +4,8 @@ use Rattle.std.proofs.Math.Path.{refl, ap, subst}
 use Rattle.std.proofs.Common.{◌∙◌, add-zero}
 use Rattle.vps_definition.specs.Syntax.{Syntax, ◌>>=◌, numbers, Outcome, run}
 use Rattle.vps_definition.specs.Syntax.Outcome.{accepted, refused}
-use Rattle.vps_laws.specs.Bind.{after, then_read, run_bind}
+use Rattle.vps_laws.specs.Bind.{after, then_read}
+use Rattle.vps_laws.proofs.Bind.{run_bind}
 use Rattle.read_steps.specs.Fits.{Fits, fits_second}
 
 module _ {A B : Type 0} {a : A} {next : ℕ} (m : Syntax A) (f : A → Syntax B) (s : List ℕ) (at : ℕ) (e : run m s at ≡ accepted a [] next) where

@@ -8,7 +8,8 @@ use Rattle.std.proofs.lemmas.List.Edits.{sets}
 use Rattle.vps_definition.specs.Syntax.{Syntax, ◌>>=◌, Token, numbers, run}
 use Rattle.vps_definition.specs.Words.{ue, check, nothing, loop, repeat}
 use Rattle.vps_definition.specs.DpbParameters.{dpb_sublayer, sublayers}
-use Rattle.vps_laws.specs.Keeps.{Keeps, keeps_so, keeps_ue, keeps_check, keeps_code, keeps_test, keeps_refuse, keeps_done, keeps_repeat, keeps_bind, returns_bind, numbers_append}
+use Rattle.vps_laws.specs.Keeps.{Keeps, keeps_so, keeps_ue, keeps_check, keeps_code, keeps_test, keeps_refuse, keeps_done, numbers_append}
+use Rattle.vps_laws.proofs.Keeps.{keeps_repeat, keeps_bind, returns_bind}
 use Rattle.read_steps.specs.declared.Cursor.{Cursor}
 use Rattle.read_steps.specs.Meets.{Meets, Yields}
 use Rattle.read_steps.specs.Fits.{Fits, limit}

@@ -12,7 +12,8 @@ use Rattle.vps_definition.specs.Syntax.Token.{number}
 use Rattle.vps_definition.specs.Syntax.Outcome.{accepted}
 use Rattle.vps_definition.specs.Words.{sum, inferred, nothing, keeps}
 use Rattle.vps_definition.specs.ProfileTierLevel.{falling, reversed}
-use Rattle.vps_laws.specs.Bind.{after, then_read, run_bind}
+use Rattle.vps_laws.specs.Bind.{after, then_read}
+use Rattle.vps_laws.proofs.Bind.{run_bind}
 use Rattle.read_steps.specs.declared.Cursor.{Cursor}
 use Rattle.read_steps.specs.Fits.{limit, Fits, fits_first}
 use Rattle.read_steps.specs.Meets.{Went, After, Meets}

@@ -10,9 +10,12 @@ use Rattle.vps_definition.specs.Syntax.Outcome.{accepted}
 use Rattle.vps_definition.specs.Words.{loop}
 use Rattle.vps_definition.specs.ProfileTierLevel.{profile_tier_level}
 use Rattle.vps_definition.specs.Vps.{Head, head, ptl_head, ptl_slot}
-use Rattle.vps_laws.specs.Bind.{Bound, run_bound}
-use Rattle.vps_laws.specs.Keeps.{Returns, keeps_bind, keeps_done, keeps_check, returns_bind}
-use Rattle.vps_laws.specs.Heads.{head_at, head_last, heads_longer}
+use Rattle.vps_laws.specs.Bind.{Bound}
+use Rattle.vps_laws.proofs.Bind.{run_bound}
+use Rattle.vps_laws.specs.Keeps.{Returns, keeps_done, keeps_check}
+use Rattle.vps_laws.proofs.Keeps.{keeps_bind, returns_bind}
+use Rattle.vps_laws.specs.Heads.{head_at, head_last}
+use Rattle.vps_laws.proofs.Heads.{heads_longer}
 use Rattle.ptl_tables.specs.Section.{sublayers_of, head_of}
 use Rattle.read_steps.specs.declared.Cursor.{Cursor}
 use Rattle.read_steps.specs.Fits.{Fits, fits_first, fits_second}

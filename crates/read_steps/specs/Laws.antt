@@ -11,7 +11,8 @@ use Rattle.vps_definition.specs.Syntax.{Syntax, ◌>>=◌, Token, numbers, Outco
 use Rattle.vps_definition.specs.Syntax.Syntax.{code, test, done}
 use Rattle.vps_definition.specs.Syntax.Outcome.{accepted, refused}
 use Rattle.vps_definition.specs.Words.{loop}
-use Rattle.vps_laws.specs.Bind.{after, then_read, run_bind}
+use Rattle.vps_laws.specs.Bind.{after, then_read}
+use Rattle.vps_laws.proofs.Bind.{run_bind}
 use Rattle.vps_laws.specs.Loops.{loop_turn, loop_rest}
 use Rattle.vps_laws.specs.Keeps.{Keeps, numbers_append}
 use Rattle.read_steps.specs.declared.Cursor.{Cursor}

@@ -6,7 +6,7 @@ use Rattle.vps_definition.specs.Syntax.Syntax.{mark, test}
 use Rattle.vps_definition.specs.Syntax.Token.{section}
 use Rattle.vps_definition.specs.Syntax.Outcome.{accepted, refused}
 use Rattle.vps_laws.specs.Inversion.{keeping_accepted}
-use Rattle.vps_laws.specs.Bind.{run_bound}
+use Rattle.vps_laws.proofs.Bind.{run_bound}
 use Rattle.vps_laws.specs.Marks.{starts_append, starts_none}
 use Rattle.vps_laws.specs.Plain.{Plain}
 use Rattle.read_steps.specs.declared.Cursor.{Cursor}

@@ -6,7 +6,7 @@ use Rattle.vps_definition.specs.OutputLayerSets.{refers_by}
 use Rattle.vps_definition.specs.Writing.{well_formed}
 use Rattle.vps_definition.specs.Layout.{flags_from}
 use Rattle.vps_definition.specs.Views.{refs_of}
-use Rattle.vps_laws.specs.Views.{well_formed_viewed}
+use Rattle.vps_laws.proofs.Views.{well_formed_viewed}
 use Rattle.layer_sets.specs.Closed.{Closed}
 use Rattle.record_layers.specs.Turns.{stored, Stored}
 

@@ -1,2 +1,4 @@
 pub mod Steps
 pub mod Tables
+pub mod Laws
+pub mod Promises

@@ -15,8 +15,9 @@ use Rattle.refusals.specs.Lent.{lent, output_after}
 use Rattle.texts.specs.Text.{Puts, puts_length, puts_same, puts_whole}
 use Rattle.sentences.specs.Sentences.{last_number, blank, sentence_of, number_of}
 use Rattle.sentences.specs.Words.{up_to_blank}
-use Rattle.sentences.specs.Laws.{sentence_bytes, sentence_most}
-use Rattle.sentences.specs.Promises.{number_of_sentence, other_bytes_give_none}
+use Rattle.sentences.specs.Laws.{sentence_bytes}
+use Rattle.sentences.proofs.Laws.{sentence_most}
+use Rattle.sentences.proofs.Promises.{number_of_sentence, other_bytes_give_none}
 
 -- no blank stands between from and end
 pub record Passed (x : List ℕ) (from end : ℕ) : Type 0 where

@@ -2,6 +2,5 @@ pub mod Sentences
 pub mod Words
 pub mod Vocabulary
 pub mod Laws
-pub mod Promises
 pub mod Cases
 pub mod Answers

@@ -5,12 +5,12 @@ use Rattle.refusals.specs.Answer.{Answer}
 use Rattle.refusals.specs.Answer.Answer.{success, refusal}
 use Rattle.stuffing.specs.Laws.{stuff_length}
 use Rattle.sentences.specs.Sentences.{sentence_of}
-use Rattle.sentences.specs.Laws.{sentence_most}
+use Rattle.sentences.proofs.Laws.{sentence_most}
 use Rattle.vps_definition.specs.Rules.{today}
 use Rattle.vps_definition.specs.Reading.{read_unit}
 use Rattle.vps_definition.specs.Reading.Reading.{accepts}
 use Rattle.vps_definition.specs.Writing.{unit_of, write_record}
-use Rattle.vps_laws.specs.Bound.{record_length}
+use Rattle.vps_laws.proofs.Bound.{record_length}
 use Rattle.vps_laws.specs.Records.{of_record}
 
 pub record_enough : (u r : List ℕ) (n : ℕ) → read_unit u ≡ accepts r n → length r ≤ 535855

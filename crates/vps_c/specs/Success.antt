@@ -18,7 +18,8 @@ use Rattle.vps_reader.specs.Parse.{Parse, parse_number, Parsed, parse_of, parse_
 use Rattle.vps_reader.specs.Parse.Parse.{accepted, too_short, refused}
 use Rattle.vps_writer.specs.Write.{write_of}
 use Rattle.vps_laws.specs.Records.{of_record}
-use Rattle.vps_laws.specs.Says.{Said, Among, TableSaid, ReadingSays, rbsp_says}
+use Rattle.vps_laws.specs.Says.{Said, Among, TableSaid, ReadingSays}
+use Rattle.vps_laws.proofs.Says.{rbsp_says}
 use Rattle.vps_c.specs.Calls.{answer_number}
 
 clash : {A : Type 0} → ◌≡◌ {A = ℕ} 0 1 → A

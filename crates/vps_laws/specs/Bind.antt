@@ -1,10 +1,9 @@
 -- Two tables in a row: read and written one after the other.
-use Rattle.std.specs.Prelude.{ℕ, zero, suc, ◌+◌, ◌-◌, ◌^◌, ◌≡◌, refl, List, [], ◌∷◌, ◌++◌, Bool, true, false, ltb, leb, eqb, length, replicate}
+use Rattle.std.specs.Prelude.{ℕ, ◌+◌, ◌-◌, ◌^◌, ◌≡◌, refl, List, [], ◌∷◌, ◌++◌, Bool, true, false, ltb, leb, eqb, length, replicate}
 use Rattle.std.proofs.Common.{sym, ap, ◌∙◌, append_assoc, add-zero, arith, length-append}
 use Rattle.std.proofs.lemmas.List.{length-replicate}
-use Rattle.bits.specs.Bits.{field_at, bits_of, to_boundary}
-use Rattle.bits.specs.Code.{Taken, code_at, code_of}
-use Rattle.bits.specs.Code as Code
+use Rattle.bits.specs.Bits.{bits_of, to_boundary}
+use Rattle.bits.specs.Code.{code_of}
 use Rattle.bits.specs.FieldLaws.{bits_length}
 use Rattle.vps_definition.specs.Syntax.{Syntax, ◌>>=◌, Token, Outcome, keeping, run, Written, putting, emit}
 use Rattle.vps_definition.specs.Syntax.Syntax.{field, code, late, keep, mark, align, test, refuse, done}
@@ -24,47 +23,15 @@ unfoldable pub then_read : {A B : Type 0} → Outcome A → (A → ℕ → Outco
 then_read (accepted a t next) F = after t (F a next)
 then_read (refused n l) F = refused n l
 
-after_nothing : {A : Type 0} (R : Outcome A) → after [] R ≡ R
+pub after_nothing : {A : Type 0} (R : Outcome A) → after [] R ≡ R
 unfolding after
 after_nothing (accepted a l next) = refl
 after_nothing (refused n l) = refl
 
-keeping_after : {A : Type 0} (u : Token) (t : List Token) (R : Outcome A) → keeping u (after t R) ≡ after (u ∷ t) R
+pub keeping_after : {A : Type 0} (u : Token) (t : List Token) (R : Outcome A) → keeping u (after t R) ≡ after (u ∷ t) R
 unfolding keeping after
 keeping_after u t (accepted a l next) = refl
 keeping_after u t (refused n l) = refl
-
-keeping_then : {A B : Type 0} (u : Token) (R : Outcome A) (F : A → ℕ → Outcome B) → keeping u (then_read R F) ≡ then_read (keeping u R) F
-unfolding keeping then_read
-keeping_then u (accepted a t next) F = keeping_after u t (F a next)
-keeping_then u (refused n l) F = refl
-
-pub run_bind : {A B : Type 0} (m : Syntax A) (f : A → Syntax B) (s : List ℕ) (at : ℕ) → run (m >>= f) s at ≡ then_read (run m s at) (λ a next. run (f a) s next)
-unfolding run ◌>>=◌ then_read
-run_bind (field w plus k) f s at =
-    let v : ℕ = field_at s at w + plus in
-    ap (keeping (number v)) (run_bind (k v) f s (at + w)) ∙ keeping_then (number v) (run (k v) s (at + w)) _
-run_bind {A} {B} (code plus k) f s at = go (λ v next. ap (keeping (number v)) (run_bind (k v) f s next) ∙ keeping_then (number v) (run (k v) s next) _) (code_at s at)
-  where
-    go : ((v next : ℕ) → keeping (number v) (run (k v >>= f) s next) ≡ then_read (keeping (number v) (run (k v) s next)) (λ a next. run (f a) s next))
-        → (c : Taken) → elim c as (λ d. Outcome B) [ Code.Taken.taken v next ↦ keeping (number (v + plus)) (run (k (v + plus) >>= f) s next) | Code.Taken.refused n ↦ refused n [] ]
-        ≡ then_read (elim c as (λ d. Outcome A) [ Code.Taken.taken v next ↦ keeping (number (v + plus)) (run (k (v + plus)) s next) | Code.Taken.refused n ↦ refused n [] ]) (λ a next. run (f a) s next)
-    go h (Code.Taken.taken v next) = h (v + plus) next
-    go h (Code.Taken.refused n) = refl
-run_bind (late w find k) f s at = run_bind (k (field_at s at w)) f s (at + w)
-run_bind (keep v m) f s at = ap (keeping (number v)) (run_bind m f s at) ∙ keeping_then (number v) (run m s at) _
-run_bind (mark m) f s at = ap (keeping section) (run_bind m f s at) ∙ keeping_then section (run m s at) _
-run_bind (align zero m) f s at = run_bind m f s (at + to_boundary at)
-run_bind {A} {B} (align (suc n) m) f s at = go (run m s (at + to_boundary at)) _ _ (run_bind m f s (at + to_boundary at)) (eqb (field_at s at (to_boundary at)) 0)
-  where
-    go : (R : Outcome A) (S : Outcome B) (F : A → ℕ → Outcome B) → S ≡ then_read R F
-        → (c : Bool) → elim c as (λ d. Outcome B) [ true ↦ S | false ↦ refused (suc n) [] ] ≡ then_read (elim c as (λ d. Outcome A) [ true ↦ R | false ↦ refused (suc n) [] ]) F
-    go R S F h true = h
-    go R S F h false = refl
-run_bind (test true m n) f s at = run_bind m f s at
-run_bind (test false m n) f s at = run_bind n f s at
-run_bind (refuse n) f s at = refl
-run_bind (done a) f s at = sym (after_nothing (run (f a) s at))
 
 -- two tables in a row that are accepted: each of them was
 pub record Bound {A B : Type 0} (m : Syntax A) (f : A → Syntax B) (s : List ℕ) (at : ℕ) (b : B) (t : List Token) (next : ℕ) : Type 0 where
@@ -76,20 +43,10 @@ pub record Bound {A B : Type 0} (m : Syntax A) (f : A → Syntax B) (s : List �
   pub second : run (f result) s middle ≡ accepted b behind next
   pub both : t ≡ before ++ behind
 
-after_accepted : {A : Type 0} {a : A} {t : List Token} {next : ℕ} (u : List Token) (R : Outcome A) → after u R ≡ accepted a t next → Kept u R a t next
+pub after_accepted : {A : Type 0} {a : A} {t : List Token} {next : ℕ} (u : List Token) (R : Outcome A) → after u R ≡ accepted a t next → Kept u R a t next
 unfolding after
 after_accepted u (accepted b l q) e = record { rest = l; inner = cc; all = cc }
 after_accepted u (refused n l) e = not_accepted e
-
-pub run_bound : {A B : Type 0} {b : B} {t : List Token} {next : ℕ} (m : Syntax A) (f : A → Syntax B) (s : List ℕ) (at : ℕ) → run (m >>= f) s at ≡ accepted b t next → Bound m f s at b t next
-unfolding then_read
-run_bound {A} {b} {t} {next} m f s at e = go (run m s at) refl (sym (run_bind m f s at) ∙ e)
-  where
-    go : (R : Outcome A) → run m s at ≡ R → then_read R (λ a q. run (f a) s q) ≡ accepted b t next → Bound m f s at b t next
-    go (accepted a l q) i h =
-        let K = after_accepted l (run (f a) s q) h in
-        record { result = a; before = l; middle = q; behind = K.rest; first = i; second = K.inner; both = K.all }
-    go (refused n l) i h = not_accepted h
 
 -- ── Writing ───────────────────────────────────────────────────────────
 -- a writing that goes on behind another, by its result, the record's rest and the place behind it

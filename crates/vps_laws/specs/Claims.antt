@@ -1,23 +1,18 @@
 -- The facts behind the promises, in the promises' form.
-use Rattle.std.specs.Prelude.{ℕ, zero, suc, ◌+◌, ◌*◌, ◌≤◌, ◌<◌, ◌≡◌, refl, List, [], ◌∷◌, ◌++◌, Bool, true, false, length, get_or, drop}
-use Rattle.std.proofs.Common.{sym, ap, ◌∙◌, arith}
+use Rattle.std.specs.Prelude.{ℕ, zero, suc, ◌+◌, ◌≤◌, ◌<◌, ◌≡◌, refl, List, [], ◌∷◌, Bool, true, false, length, get_or, drop}
+use Rattle.std.proofs.Common.{ap, ◌∙◌, arith}
 use Rattle.refusals.specs.Answer.{Answer}
 use Rattle.refusals.specs.Answer.Answer.{success, refusal}
 use Rattle.stuffing.specs.Stuffing.{unstuff}
-use Rattle.bits.specs.TrailingLaws.{trails_inside}
 use Rattle.vps_definition.specs.Rules.{Rules}
-use Rattle.vps_definition.specs.Syntax.{spans, run}
-use Rattle.vps_definition.specs.Vps.{vps_under}
 use Rattle.vps_definition.specs.Layout.{from_section, entry_length, ids_from, layer_ids}
-use Rattle.vps_definition.specs.Reading.{closed_spans, rbsp_spans_under, read_rbsp_under, most_rbsp_bytes, read_unit_under}
+use Rattle.vps_definition.specs.Reading.{read_rbsp_under, most_rbsp_bytes, read_unit_under}
 use Rattle.vps_definition.specs.Reading.Reading.{accepts}
-use Rattle.vps_definition.specs.Writing.{unit_of, write_record_under, well_formed_under}
-use Rattle.vps_laws.specs.Reading.{Each, Within, Gapless, spans_gapless, gapless_join, gapless_inside}
+use Rattle.vps_definition.specs.Writing.{write_record_under, well_formed_under}
+use Rattle.vps_laws.specs.Reading.{Each}
 use Rattle.vps_laws.specs.Keeps.{Below}
-use Rattle.vps_laws.specs.Units.{Parts, rbsp_parts, Accepted, unit_accepted, written_read}
-use Rattle.vps_laws.specs.Accepted.{Rewritten, rbsp_rewritten}
-use Rattle.vps_laws.specs.Indices.{RisingFrom, Inside}
-use Rattle.vps_laws.specs.Laid.{Sound, record_sound}
+use Rattle.vps_laws.specs.Units.{unit_accepted}
+use Rattle.vps_laws.specs.Indices.{RisingFrom}
 
 -- ── Lists ─────────────────────────────────────────────────────────────
 pub rising : (n : ℕ) (l : List ℕ) → RisingFrom n l → (i : ℕ) → i + 1 < length l → get_or l i 0 < get_or l (i + 1) 0
@@ -53,16 +48,6 @@ accepted_reads rules u r n e = let A = unit_accepted rules u r n e in ap (λ (x 
 pub accepted_short : (rules : Rules) (u r : List ℕ) (n : ℕ) → read_unit_under rules u ≡ accepts r n → length (rbsp_in u) ≤ most_rbsp_bytes
 accepted_short rules u r n e = let A = unit_accepted rules u r n e in rw A.bytes A.short
 
-pub accepted_sound : (rules : Rules) (u r : List ℕ) (n : ℕ) → read_unit_under rules u ≡ accepts r n → Sound r
-accepted_sound rules u r n e =
-    let P = rbsp_parts rules (rbsp_in u) r n (accepted_reads rules u r n e) in
-    rw P.is (record_sound rules (rbsp_in u) P.general P.tokens P.behind _ P.reads)
-
-pub accepted_written : (rules : Rules) (u r : List ℕ) (n : ℕ) → read_unit_under rules u ≡ accepts r n → (v : List ℕ) × (write_record_under rules r ≡ success v)
-accepted_written rules u r n e =
-    let W = rbsp_rewritten rules (rbsp_in u) r n (accepted_short rules u r n e) (accepted_reads rules u r n e) in
-    (unit_of W.rbsp, W.written)
-
 pub written_well_formed : (rules : Rules) (r u : List ℕ) → write_record_under rules r ≡ success u → well_formed_under rules r ≡ true
 unfolding well_formed_under
 written_well_formed rules r u e = ap (λ (a : Answer (List ℕ)). elim a as (λ d. Bool) [ success b ↦ true | refusal n ↦ false ]) e
@@ -80,20 +65,6 @@ well_formed_written rules r e = go (write_record_under rules r) refl e
     go (refusal n) f g = absurd (let n : ◌≡◌ {A = ℕ} 0 1 = cc in omega arith)
 
 -- ── Bits ──────────────────────────────────────────────────────────────
-each_so : {A : Type 0} (P Q : A → Type 0) (l : List A) → ((a : A) → P a → Q a) → Each P l → Each Q l
+pub each_so : {A : Type 0} (P Q : A → Type 0) (l : List A) → ((a : A) → P a → Q a) → Each P l → Each Q l
 each_so P Q [] f h = tt
 each_so P Q (a ∷ l) f h = (f a h.0, each_so P Q l f h.1)
-
--- the table's bits, the extension's and the trailing bits, from the first bit to the last one used
-pub spans_used : (rules : Rules) (s r : List ℕ) (n : ℕ) → read_rbsp_under rules s ≡ accepts r n → Gapless 0 (rbsp_spans_under rules s) n
-unfolding rbsp_spans_under closed_spans
-spans_used rules s r n e =
-    let m = vps_under rules in
-    let P = rbsp_parts rules s r n e in
-    gapless_join 0 P.behind n (spans m s 0) (closed_spans s (run m s 0)) (spans_gapless m s 0 P.reads) (rw P.reads (refl, (omega arith, (refl, (omega arith, sym P.ends.behind)))))
-
-pub bits_counted : (rules : Rules) (s r : List ℕ) (n : ℕ) → read_rbsp_under rules s ≡ accepts r n → (n ≤ 8 * length s) × Each (λ sp. sp.to ≤ n) (rbsp_spans_under rules s)
-bits_counted rules s r n e = (
-  trails_inside s _ n (rbsp_parts rules s r n e).ends,
-  each_so (Within 0 n) (λ sp. sp.to ≤ n) (rbsp_spans_under rules s) (λ sp h. h.2) (gapless_inside 0 0 n (rbsp_spans_under rules s) (omega arith) (spans_used rules s r n e)),
-)

@@ -10,7 +10,7 @@ use Rattle.vps_definition.specs.Syntax.Syntax.{field, code, late, keep, mark, al
 use Rattle.vps_definition.specs.Syntax.Token.{number, section}
 use Rattle.vps_definition.specs.Syntax.Outcome.{accepted, refused}
 use Rattle.vps_definition.specs.Vps.{vps_under}
-use Rattle.vps_definition.specs.Reading.{Reading, closed, read_rbsp_under}
+use Rattle.vps_definition.specs.Reading.{Reading, closed}
 
 -- a table
 unfoldable pub run_with : {A : Type 0} → (List ℕ → ℕ → Taken) → Syntax A → List ℕ → ℕ → Outcome A
@@ -57,7 +57,3 @@ run_with_lem (done a) s at = refl
 -- an RBSP
 unfoldable pub read_rbsp_with : (List ℕ → ℕ → Taken) → Rules → List ℕ → Reading
 read_rbsp_with codes rules s = closed s (run_with codes (vps_under rules) s 0)
-
-pub rbsp_with_lem : (rules : Rules) (s : List ℕ) → read_rbsp_under rules s ≡ read_rbsp_with code_at rules s
-unfolding read_rbsp_under read_rbsp_with
-rbsp_with_lem rules s = ap (closed s) (run_with_lem (vps_under rules) s 0)

@@ -26,12 +26,10 @@ pub mod UsedBits
 pub mod SlotViews
 pub mod ByNumber
 pub mod Views
-pub mod Promises
 pub mod Bound
 pub mod Compared
 pub mod LongerExtension
 pub mod AnyExtension
-pub mod Changes
 pub mod BeforeCases
 pub mod Codes
 pub mod Says

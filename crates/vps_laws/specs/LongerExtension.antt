@@ -1,31 +1,27 @@
 -- Extension bits up to the last one-bit: what was read as extension before that rule, and which answers changed with it.
 use Prim.Native.Nat.{ℕ, zero, suc, ◌+◌, ◌*◌, ◌-◌, ◌≤◌, ◌<◌}
 use Rattle.std.specs.Prelude.{◌≡◌, List, [], ◌∷◌, ◌++◌, Bool, leb, ltb}
-use Rattle.std.proofs.Math.Path.{refl, ap}
-use Rattle.std.proofs.Common.{◌∙◌, add-zero, leb-true, leb-false, ltb-true, ltb-false, lt-ltb, ne_eqb, lit<}
+use Rattle.std.proofs.Math.Path.{refl}
+use Rattle.std.proofs.Common.{add-zero, leb-true, leb-false, ltb-true, ltb-false, lt-ltb, ne_eqb}
 use Rattle.std.proofs.Math.Bool.{true, false}
 use native.Mathlib.Omega.{arith}
-use Rattle.std.proofs.lemmas.Bool.{eqb-false, lt-leb}
+use Rattle.std.proofs.lemmas.Bool.{lt-leb}
 use Rattle.std.proofs.Math.Dec.{eqb}
 use Rattle.std.proofs.Math.ListN.{length, get_or}
 use Rattle.refusals.specs.Answer.Answer.{success, refusal}
 use Rattle.refusals.specs.Number.{stop_bit_zero}
 use Rattle.bits.specs.Bits.{bit_at, ones_from, to_boundary}
 use Rattle.bits.specs.Reading.{trailing_at}
-use Rattle.bits.specs.OneLaws.{LastOne, ones_past_end, ones_here, ones_fall, field_without_ones, last_one, last_inside}
+use Rattle.bits.specs.OneLaws.{LastOne, ones_past_end, ones_here, ones_fall, field_without_ones, last_inside}
 use Rattle.bits.specs.TrailingLaws.{trailing_read}
 use Rattle.vps_definition.specs.Rules.{Rules}
-use Rattle.vps_definition.specs.Syntax.{Token, Outcome, run}
+use Rattle.vps_definition.specs.Syntax.{Outcome, run}
 use Rattle.vps_definition.specs.Syntax.Outcome.{accepted, refused}
 use Rattle.vps_definition.specs.Vps.{vps_under}
 use Rattle.vps_definition.specs.Record.{record_of}
 use Rattle.vps_definition.specs.Layout.{extension_in}
-use Rattle.vps_definition.specs.Reading.{Reading, bits_at, data_bits, extension_bits, ended, closed, read_rbsp_under, unit_by, read_unit_under}
+use Rattle.vps_definition.specs.Reading.{Reading, bits_at, ended, unit_by}
 use Rattle.vps_definition.specs.Reading.Reading.{accepts, refuses}
-use Rattle.vps_laws.specs.Extension.{bits_at_last, data_to_last, data_without_ones}
-use Rattle.vps_laws.specs.Accepted.{General, general_read}
-use Rattle.vps_laws.specs.Laid.{record_number, record_extension}
-use Rattle.vps_laws.specs.Compared.{unit_both}
 
 -- ── The rule of before ────────────────────────────────────────────────
 -- two one-bits remain
@@ -53,7 +49,7 @@ unit_with_shorter_extension rules = unit_by (rbsp_with_shorter_extension rules)
 
 -- ── Where it stopped ──────────────────────────────────────────────────
 -- with fewer than two ones left
-stopped : (s : List ℕ) (at n : ℕ) → n ≡ 8 * length s - at → ones_from s (at + data_bits_before s at n) < 2
+pub stopped : (s : List ℕ) (at n : ℕ) → n ≡ 8 * length s - at → ones_from s (at + data_bits_before s at n) < 2
 unfolding data_bits_before more_data_before
 stopped s at zero e = rw (add-zero at) (omega (arith, ones_past_end s at (omega arith)))
 stopped s at (suc n) e = go (stopped s (at + 1) n (omega arith)) (leb 2 (ones_from s at)) refl
@@ -64,7 +60,7 @@ stopped s at (suc n) e = go (stopped s (at + 1) n (omega arith)) (leb 2 (ones_fr
     go h false f = rw (add-zero at) (omega (arith, leb-false 2 (ones_from s at) f))
 
 -- at the last one, or before it
-not_beyond : (s : List ℕ) (at n p : ℕ) → LastOne s p → at ≤ p → at + data_bits_before s at n ≤ p
+pub not_beyond : (s : List ℕ) (at n p : ℕ) → LastOne s p → at ≤ p → at + data_bits_before s at n ≤ p
 unfolding data_bits_before more_data_before
 not_beyond s at zero p L l = omega arith
 not_beyond s at (suc n) p L l = go (not_beyond s (at + 1) n p L) (leb 2 (ones_from s at)) refl
@@ -80,24 +76,24 @@ not_beyond s at (suc n) p L l = go (not_beyond s (at + 1) n p L) (leb 2 (ones_fr
         apart false g h = absurd (omega (arith, h, ones_fall s p at (ltb-false at p g), ones_here s p, L.one, L.none))
     go h false f = omega arith
 
-none_before : (s : List ℕ) (at n : ℕ) → ones_from s at ≡ 0 → data_bits_before s at n ≡ 0
+pub none_before : (s : List ℕ) (at n : ℕ) → ones_from s at ≡ 0 → data_bits_before s at n ≡ 0
 unfolding data_bits_before more_data_before
 none_before s at zero h = refl
 none_before s at (suc n) h = rw (lt-leb 2 (ones_from s at) (omega arith), data_bits_before) refl
 
 -- between that place and the last one there are zeros
-zero_between : (s : List ℕ) (p q k : ℕ) → LastOne s p → ones_from s q < 2 → q ≤ k → k < p → bit_at s k ≡ 0
+pub zero_between : (s : List ℕ) (p q k : ℕ) → LastOne s p → ones_from s q < 2 → q ≤ k → k < p → bit_at s k ≡ 0
 zero_between s p q k L h l m =
     omega (arith, h, ones_fall s q k l, ones_here s k, ones_fall s (k + 1) p (omega arith), ones_here s p, L.one)
 
 -- ── The trailing bits ─────────────────────────────────────────────────
 -- the last one is a stop bit
-trails_last : (s : List ℕ) (p : ℕ) → LastOne s p → trailing_at s p ≡ success (p + 1 + to_boundary (p + 1))
+pub trails_last : (s : List ℕ) (p : ℕ) → LastOne s p → trailing_at s p ≡ success (p + 1 + to_boundary (p + 1))
 trails_last s p L =
     trailing_read s p (p + 1 + to_boundary (p + 1)) (record { inside = last_inside s p L; stop = L.one; zeros = field_without_ones s (p + 1) (to_boundary (p + 1)) L.none; behind = refl })
 
 -- a 0 is none
-no_stop : (s : List ℕ) (at : ℕ) → at < 8 * length s → bit_at s at ≡ 0 → trailing_at s at ≡ refusal stop_bit_zero
+pub no_stop : (s : List ℕ) (at : ℕ) → at < 8 * length s → bit_at s at ≡ 0 → trailing_at s at ≡ refusal stop_bit_zero
 unfolding trailing_at
 no_stop s at l z = rw (lt-ltb at (8 * length s) l, ne_eqb (bit_at s at) 1 (λ e. omega (arith, z, e))) refl
 
@@ -106,67 +102,3 @@ no_stop s at l z = rw (lt-ltb at (8 * length s) l, ne_eqb (bit_at s at) 1 (λ e.
 pub data Longer : (now before : Reading) → Type 0 where
   as_before : {R : Reading} → Longer R R
   ends_in_zero : (r : List ℕ) (n : ℕ) → get_or r 8 0 ≡ 1 → (e : List ℕ) → extension_in r ≡ e ++ (0 ∷ []) → Longer (accepts r n) (refuses stop_bit_zero)
-
-module _ (rules : Rules) (s general : List ℕ) (t : List Token) (at : ℕ) (reads : run (vps_under rules) s 0 ≡ accepted general t at) where
-  -- what is answered where so many bits are read as extension
-  abbrev with_bits : ℕ → Reading
-  with_bits n = ended (record_of general t (bits_at s at n)) (trailing_at s (at + n))
-
-  G : General general
-  G = general_read rules s general t at reads
-
-  -- up to the last one, and up to a place before it
-  fewer : (p b : ℕ) → (get_or general 8 0 ≡ 0 → ⊥) → LastOne s p → ones_from s (at + b) < 2 → at + b < p → Longer (with_bits (p - at)) (with_bits b)
-  unfolding ended
-  fewer p b f L h l =
-      let c : ℕ = p - at - 1 in
-      let d : p - at ≡ suc c = omega arith in
-      let q : at + (p - at) ≡ p = omega arith in
-      let z : bit_at s (at + c) ≡ 0 = zero_between s p (at + b) (at + c) L h (omega arith) (omega arith) in
-      let w : bits_at s at (p - at) ≡ bits_at s at c ++ (0 ∷ []) = ap (bits_at s at) d ∙ bits_at_last s at c ∙ ap (λ (v : ℕ). bits_at s at c ++ (v ∷ [])) z in
-      let y = no_stop s (at + b) (omega (arith, last_inside s p L)) (zero_between s p (at + b) (at + b) L h (omega arith) l) in
-      let x = ap (trailing_at s) q ∙ trails_last s p L in
-      let v : get_or general 8 0 ≡ 1 = omega (arith, f, G.flag) in
-      rw (x, y, ended) (ends_in_zero _ _ (record_number general t (bits_at s at (p - at)) 8 G.nine (lit< tt) ∙ v) (bits_at s at c) (record_extension rules s general t at (bits_at s at (p - at)) reads ∙ w))
-
-  data_longer : (get_or general 8 0 ≡ 0 → ⊥) → Longer (with_bits (data_bits s at (8 * length s - at))) (with_bits (data_bits_before s at (8 * length s - at)))
-  data_longer f = go (leb 1 (ones_from s at)) refl
-    where
-      n : ℕ
-      n = 8 * length s - at
-
-      up_to : (p b : ℕ) → LastOne s p → at ≤ p → ones_from s (at + b) < 2 → at + b ≤ p → Longer (with_bits (p - at)) (with_bits b)
-      up_to p b L l h m = by (ltb (at + b) p) refl
-        where
-          by : (c : Bool) → ltb (at + b) p ≡ c → Longer (with_bits (p - at)) (with_bits b)
-          by true e = fewer p b f L h (ltb-true (at + b) p e)
-          by false e = let q : p - at ≡ b = omega (arith, ltb-false (at + b) p e) in rw q as_before
-
-      go : (c : Bool) → leb 1 (ones_from s at) ≡ c → Longer (with_bits (data_bits s at n)) (with_bits (data_bits_before s at n))
-      go true e =
-          let P = last_one s at (leb-true 1 (ones_from s at) e) in
-          let p : ℕ = P.0 in
-          rw (data_to_last s at n p refl P.1.1) (up_to p (data_bits_before s at n) P.1.1 P.1.0 (stopped s at n refl) (not_beyond s at n p P.1.1 P.1.0))
-      go false e =
-          let z : ones_from s at ≡ 0 = omega (arith, leb-false 1 (ones_from s at) e) in
-          rw (data_without_ones s at n z, none_before s at n z) as_before
-
-  closed_longer : Longer (closed s (accepted general t at)) (closed_before s (accepted general t at))
-  unfolding closed closed_before extension_bits extension_bits_before
-  closed_longer = go (eqb (get_or general 8 0) 0) refl
-    where
-      go : (c : Bool) → eqb (get_or general 8 0) 0 ≡ c
-          → Longer (with_bits (elim c as (λ d. ℕ) [ true ↦ 0 | false ↦ data_bits s at (8 * length s - at) ])) (with_bits (elim c as (λ d. ℕ) [ true ↦ 0 | false ↦ data_bits_before s at (8 * length s - at) ]))
-      go true e = as_before
-      go false e = data_longer (eqb-false (get_or general 8 0) 0 e)
-
-rbsp_longer : (rules : Rules) (s : List ℕ) → Longer (read_rbsp_under rules s) (rbsp_with_shorter_extension rules s)
-unfolding read_rbsp_under rbsp_with_shorter_extension
-rbsp_longer rules s = go (run (vps_under rules) s 0) refl
-  where
-    go : (R : Outcome (List ℕ)) → run (vps_under rules) s 0 ≡ R → Longer (closed s R) (closed_before s R)
-    go (accepted general t at) e = closed_longer rules s general t at e
-    go (refused n t) e = unfold closed closed_before in as_before
-
-pub answer_longer : (rules : Rules) (u : List ℕ) → Longer (read_unit_under rules u) (unit_with_shorter_extension rules u)
-answer_longer rules u = unit_both (λ s now before. Longer now before) (λ s R. as_before) (read_rbsp_under rules) (rbsp_with_shorter_extension rules) (rbsp_longer rules) u

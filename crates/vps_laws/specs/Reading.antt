@@ -1,11 +1,11 @@
 -- Laws of reading, by induction over a reading that is accepted.
 use Rattle.std.specs.Prelude.{ℕ, ◌+◌, ◌*◌, ◌≤◌, ◌<◌, ◌≡◌, refl, List, [], ◌∷◌, ◌++◌, length}
-use Rattle.std.proofs.Common.{sym, ap, ◌∙◌, arith, length-append}
+use Rattle.std.proofs.Common.{sym, ap, ◌∙◌, arith}
 use Rattle.std.proofs.Math.Path.{subst⁻¹}
 use Rattle.bits.specs.Bits.{to_boundary}
 use Rattle.bits.specs.Code.{code_at, code_of}
 use Rattle.bits.specs.Code.Taken.{taken}
-use Rattle.bits.specs.FieldLaws.{Agree, field_agree, bits_agree, agree_append}
+use Rattle.bits.specs.FieldLaws.{Agree, field_agree, bits_agree}
 use Rattle.bits.specs.CodeLaws.{code_bits, Whole, code_whole, code_near}
 use Rattle.vps_definition.specs.Syntax.{Syntax, Token, run, Span, spans}
 use Rattle.vps_definition.specs.Syntax.Outcome.{accepted}
@@ -53,11 +53,6 @@ pub run_agree : {A : Type 0} {a : A} {t : List Token} {next : ℕ} (m : Syntax A
     → (s' : List ℕ) → Agree s s' next → next ≤ 8 * length s' → run m s' at ≡ accepted a t next
 run_agree m s at e f s' h g = reads_run (reads_agree (run_reads m s at e) f s' h g)
 
--- so no bytes behind it change it
-pub run_append : {A : Type 0} {a : A} {t : List Token} {next : ℕ} (m : Syntax A) (s : List ℕ) (at : ℕ) → run m s at ≡ accepted a t next → next < 8 * length s
-    → (x : List ℕ) → run m (s ++ x) at ≡ accepted a t next
-run_append {next} m s at e f x = run_agree m s at e f (s ++ x) (agree_append s x next (omega arith)) (omega (arith, length-append s x))
-
 -- ── The bits taken ────────────────────────────────────────────────────
 -- of each element of a list
 abbrev pub Each : {A : Type 0} → (A → Type 0) → List A → Type 0
@@ -77,7 +72,7 @@ abbrev pub Gapless : ℕ → List Span → ℕ → Type 0
 Gapless at [] next = at ≡ next
 Gapless at (p ∷ l) next = (p.from ≡ at) × ((at ≤ p.to) × Gapless p.to l next)
 
-reads_gapless : {A : Type 0} {m : Syntax A} {s : List ℕ} {at : ℕ} {a : A} {t : List Token} {next : ℕ} → Reads m s at a t next → Gapless at (spans m s at) next
+pub reads_gapless : {A : Type 0} {m : Syntax A} {s : List ℕ} {at : ℕ} {a : A} {t : List Token} {next : ℕ} → Reads m s at a t next → Gapless at (spans m s at) next
 unfolding spans
 reads_gapless (read_field R) = (refl, (omega arith, reads_gapless R))
 reads_gapless (read_code {s} {at} {v} {behind} e R) = let n = code_near s at v behind e in rw (e, spans) (refl, (omega arith, reads_gapless R))
@@ -89,10 +84,6 @@ reads_gapless (read_align z R) = (refl, (omega arith, reads_gapless R))
 reads_gapless (read_first R) = reads_gapless R
 reads_gapless (read_second R) = reads_gapless R
 reads_gapless read_done = refl
-
--- the bits taken are all bits from the place a reading starts at to the place it ends at
-pub spans_gapless : {A : Type 0} {a : A} {t : List Token} {next : ℕ} (m : Syntax A) (s : List ℕ) (at : ℕ) → run m s at ≡ accepted a t next → Gapless at (spans m s at) next
-spans_gapless m s at e = reads_gapless (run_reads m s at e)
 
 pub gapless_join : (at middle next : ℕ) (x y : List Span) → Gapless at x middle → Gapless middle y next → Gapless at (x ++ y) next
 gapless_join at middle next [] y e g = subst⁻¹ (λ (k : ℕ). Gapless k y next) e g

@@ -8,11 +8,10 @@ use Rattle.bits.specs.Code.{code_at, code_of}
 use Rattle.bits.specs.Code as Code
 use Rattle.bits.specs.FieldLaws.{field_lt, bits_length}
 use Rattle.bits.specs.CodeLaws.{Whole, code_whole}
-use Rattle.vps_definition.specs.Syntax.{Syntax, ◌>>=◌, Token, numbers, run, emit, skim, look}
+use Rattle.vps_definition.specs.Syntax.{Syntax, ◌>>=◌, Token, numbers, emit, skim, look}
 use Rattle.vps_definition.specs.Syntax.Syntax.{field, code, late, keep, mark, align, test, refuse, done}
-use Rattle.vps_definition.specs.Syntax.Outcome.{accepted}
 use Rattle.vps_definition.specs.Syntax.Written.{wrote}
-use Rattle.vps_laws.specs.Inversion.{Reads, run_reads, Writes, emit_writes, writes_emit, write_late_as}
+use Rattle.vps_laws.specs.Inversion.{Reads, Writes, emit_writes, write_late_as}
 use Rattle.vps_laws.specs.Inversion.Reads.{read_field, read_code, read_late, read_keep, read_mark, pass_align, read_align, read_first, read_second, read_done}
 use Rattle.vps_laws.specs.Inversion.Writes.{write_field, write_code, write_late, write_keep, write_mark, write_align, write_first, write_second, write_done}
 use Rattle.vps_laws.specs.Reading.{reads_grows}
@@ -36,10 +35,10 @@ Coherent (done a) s at r x = Unit {0}
 
 -- ── What was read is written ──────────────────────────────────────────
 -- bits that write the numbers kept, with y behind them in the record, from a place up to another
-record Rewrites {A : Type 0} (m : Syntax A) (at : ℕ) (a : A) (t : List Token) (next : ℕ) (r y : List ℕ) : Type 0 where
-  bits : List ℕ
-  writes : Writes m r (numbers t ++ y) at a t y bits
-  reaches : at + length bits ≡ next
+pub record Rewrites {A : Type 0} (m : Syntax A) (at : ℕ) (a : A) (t : List Token) (next : ℕ) (r y : List ℕ) : Type 0 where
+  pub bits : List ℕ
+  pub writes : Writes m r (numbers t ++ y) at a t y bits
+  pub reaches : at + length bits ≡ next
 
 -- one step, which writes c, and then what follows it
 step : {A : Type 0} {m n : Syntax A} {at behind : ℕ} {a : A} {t u : List Token} {next : ℕ} {r y : List ℕ} (c : List ℕ)
@@ -47,7 +46,7 @@ step : {A : Type 0} {m n : Syntax A} {at behind : ℕ} {a : A} {t u : List Token
     → Rewrites n behind a u next r y → Rewrites m at a t next r y
 step c k e I = record { bits = c ++ I.bits; writes = k I.bits I.writes; reaches = omega (arith, length-append c I.bits, I.reaches) }
 
-reads_writes : {A : Type 0} {m : Syntax A} {s : List ℕ} {at : ℕ} {a : A} {t : List Token} {next : ℕ} → Reads m s at a t next → next < 8 * length s
+pub reads_writes : {A : Type 0} {m : Syntax A} {s : List ℕ} {at : ℕ} {a : A} {t : List Token} {next : ℕ} → Reads m s at a t next → next < 8 * length s
     → (r y : List ℕ) → Coherent m s at r (numbers t ++ y) → Rewrites m at a t next r y
 unfolding Coherent numbers
 reads_writes (read_field {w} {plus} {s} {at} R) f r y h =
@@ -80,15 +79,8 @@ pub record Emits {A : Type 0} (m : Syntax A) (at : ℕ) (a : A) (t : List Token)
   pub emits : emit m r (numbers t ++ y) at ≡ wrote a t y bits
   pub reaches : at + length bits ≡ next
 
--- what was read before the bytes end is written from the numbers kept, in as many bits
-pub run_emit : {A : Type 0} {a : A} {t : List Token} {next : ℕ} (m : Syntax A) (s : List ℕ) (at : ℕ) → run m s at ≡ accepted a t next → next < 8 * length s
-    → (r y : List ℕ) → Coherent m s at r (numbers t ++ y) → Emits m at a t next r y
-run_emit m s at e f r y h =
-    let W = reads_writes (run_reads m s at e) f r y h in
-    record { bits = W.bits; emits = writes_emit W.writes; reaches = W.reaches }
-
 -- ── Two tables in a row ───────────────────────────────────────────────
-reads_coherent : {A B : Type 0} {m : Syntax A} {s : List ℕ} {at : ℕ} {a : A} {t : List Token} {next : ℕ} → Reads m s at a t next → (f : A → Syntax B) (r y : List ℕ)
+pub reads_coherent : {A B : Type 0} {m : Syntax A} {s : List ℕ} {at : ℕ} {a : A} {t : List Token} {next : ℕ} → Reads m s at a t next → (f : A → Syntax B) (r y : List ℕ)
     → Coherent m s at r (numbers t ++ y) → Coherent (f a) s next r y → Coherent (m >>= f) s at r (numbers t ++ y)
 unfolding Coherent numbers ◌>>=◌
 reads_coherent (read_field R) f r y h g = reads_coherent R f r y h g
@@ -102,12 +94,8 @@ reads_coherent (read_first R) f r y h g = reads_coherent R f r y h g
 reads_coherent (read_second R) f r y h g = reads_coherent R f r y h g
 reads_coherent read_done f r y h g = g
 
-pub coherent_bind : {A B : Type 0} {a : A} {t : List Token} {next : ℕ} (m : Syntax A) (f : A → Syntax B) (s : List ℕ) (at : ℕ) (r y : List ℕ) → run m s at ≡ accepted a t next
-    → Coherent m s at r (numbers t ++ y) → Coherent (f a) s next r y → Coherent (m >>= f) s at r (numbers t ++ y)
-coherent_bind m f s at r y e h g = reads_coherent (run_reads m s at e) f r y h g
-
 -- ── Looking past a table ──────────────────────────────────────────────
-reads_skim : {A : Type 0} {m : Syntax A} {s : List ℕ} {at : ℕ} {a : A} {t : List Token} {next : ℕ} → Reads m s at a t next → (r y : List ℕ)
+pub reads_skim : {A : Type 0} {m : Syntax A} {s : List ℕ} {at : ℕ} {a : A} {t : List Token} {next : ℕ} → Reads m s at a t next → (r y : List ℕ)
     → Coherent m s at r (numbers t ++ y) → skim m r (numbers t ++ y) ≡ y
 unfolding Coherent numbers skim
 reads_skim (read_field R) r y h = reads_skim R r y h
@@ -121,12 +109,7 @@ reads_skim (read_first R) r y h = reads_skim R r y h
 reads_skim (read_second R) r y h = reads_skim R r y h
 reads_skim read_done r y h = refl
 
--- the record's rest behind a table is what stands behind the numbers it kept
-pub skim_run : {A : Type 0} {a : A} {t : List Token} {next : ℕ} (m : Syntax A) (s : List ℕ) (at : ℕ) (r y : List ℕ) → run m s at ≡ accepted a t next
-    → Coherent m s at r (numbers t ++ y) → skim m r (numbers t ++ y) ≡ y
-skim_run m s at r y e h = reads_skim (run_reads m s at e) r y h
-
-reads_look : {A : Type 0} {m : Syntax A} {s : List ℕ} {at : ℕ} {a : A} {t : List Token} {next : ℕ} → Reads m s at a t next → (d : A) (r y : List ℕ)
+pub reads_look : {A : Type 0} {m : Syntax A} {s : List ℕ} {at : ℕ} {a : A} {t : List Token} {next : ℕ} → Reads m s at a t next → (d : A) (r y : List ℕ)
     → Coherent m s at r (numbers t ++ y) → look d m r (numbers t ++ y) ≡ a
 unfolding Coherent numbers look
 reads_look (read_field R) d r y h = reads_look R d r y h
@@ -139,11 +122,6 @@ reads_look (read_align z R) d r y h = reads_look R d r y h
 reads_look (read_first R) d r y h = reads_look R d r y h
 reads_look (read_second R) d r y h = reads_look R d r y h
 reads_look read_done d r y h = refl
-
--- what a table ended in is found again by looking through the numbers it kept
-pub look_run : {A : Type 0} {a : A} {t : List Token} {next : ℕ} (d : A) (m : Syntax A) (s : List ℕ) (at : ℕ) (r y : List ℕ) → run m s at ≡ accepted a t next
-    → Coherent m s at r (numbers t ++ y) → look d m r (numbers t ++ y) ≡ a
-look_run d m s at r y e h = reads_look (run_reads m s at e) d r y h
 
 -- ── Looking through a record that is written ──────────────────────────
 writes_look : {A : Type 0} {m : Syntax A} {r x : List ℕ} {at : ℕ} {a : A} {t : List Token} {y b : List ℕ} → Writes m r x at a t y b → (d : A) → (look d m r x ≡ a) × (skim m r x ≡ y)

@@ -1,5 +1,5 @@
 -- Units: what an accepted one is, and that what is written reads back.
-use Rattle.std.specs.Prelude.{ℕ, zero, suc, ◌+◌, ◌*◌, ◌/◌, ◌%◌, ◌≤◌, ◌<◌, ◌≡◌, refl, List, [], ◌∷◌, ◌++◌, Bool, true, false, ◌&&◌, leb, eqb, length, get_or, drop, replicate}
+use Rattle.std.specs.Prelude.{ℕ, ◌+◌, ◌*◌, ◌/◌, ◌%◌, ◌≤◌, ◌<◌, ◌≡◌, refl, List, [], ◌∷◌, ◌++◌, Bool, true, false, leb, eqb, length, get_or, drop}
 use Rattle.std.proofs.Common.{sym, ◌∙◌, subst, append_assoc, arith, leb-true, eqb-true, le-leb, eq-eqb, lit<, length-append}
 use Rattle.std.proofs.Math.Path.{ap}
 use Rattle.refusals.specs.Answer.{Answer}
@@ -8,7 +8,7 @@ use Rattle.lists.specs.Table.{and_both}
 use Rattle.lists.specs.Same.{same, same_true}
 use Rattle.stuffing.specs.Stuffing.{unstuff, stuff}
 use Rattle.stuffing.specs.Laws.{unstuff_stuff}
-use Rattle.bits.specs.Bits.{pack, to_boundary}
+use Rattle.bits.specs.Bits.{to_boundary}
 use Rattle.bits.specs.Reading.{trailing_at}
 use Rattle.bits.specs.Writing.{trailing_bits}
 use Rattle.bits.specs.FieldLaws.{BitsAt, bits_left, bits_right}
@@ -23,7 +23,6 @@ use Rattle.vps_definition.specs.Record.{record_of}
 use Rattle.vps_definition.specs.Reading.{Reading, bits_at, extension_bits, ended, closed, read_rbsp_under, most_rbsp_bytes, limited_by, vps_nut, unit_by, read_unit_under}
 use Rattle.vps_definition.specs.Reading.Reading.{accepts, refuses}
 use Rattle.vps_definition.specs.Writing.{extension_good, extension_of, rbsp_of, unit_of, limited, parts_good, finished, write_record_under}
-use Rattle.vps_laws.specs.Writing.{emit_run, emit_bits}
 use Rattle.vps_laws.specs.Extension.{bits_at_stand, good_bits, extension_stands}
 
 -- ── What an accepted unit is ──────────────────────────────────────────
@@ -152,7 +151,7 @@ read_packed rules general t b e B G R =
     })
 
 -- the payload of a unit is its RBSP again
-payload_of : (rbsp : List ℕ) → unstuff (drop 2 (unit_of rbsp)) ≡ rbsp
+pub payload_of : (rbsp : List ℕ) → unstuff (drop 2 (unit_of rbsp)) ≡ rbsp
 unfolding unit_of
 payload_of rbsp = unstuff_stuff rbsp
 
@@ -207,20 +206,3 @@ written_made rules r u e = go (emit (vps_under rules) r (drop 9 r) 0) refl e
       where
         same_bytes : {x y : List ℕ} → success x ≡ success y → x ≡ y
         same_bytes e = cc
-
--- what was written is read as the record it was written from
-pub written_read : (rules : Rules) (r u : List ℕ) → write_record_under rules r ≡ success u → read_unit_under rules u ≡ accepts r (8 * length (unstuff (drop 2 u)))
-written_read rules r u e =
-    let M = written_made rules r u e in
-    let y : List ℕ = extension_of M.rest in
-    let s : List ℕ = rbsp_of M.bits y in
-    let R : read_rbsp_under rules s ≡ accepts r (8 * length s) =
-    read_packed rules M.general M.tokens M.bits y (emit_bits (vps_under rules) r (drop 9 r) 0 M.emits) M.extension
-    (λ s H l. emit_run (vps_under rules) r (drop 9 r) 0 M.emits s H l)
-    ∙ ap (λ (l : List ℕ). accepts l (8 * length s)) M.is in
-    let z : unstuff (drop 2 u) ≡ s = ap (λ (l : List ℕ). unstuff (drop 2 l)) M.unit ∙ payload_of s in
-    ap (read_unit_under rules) M.unit ∙ unit_reads rules s r (8 * length s) M.short R ∙ ap (λ (l : List ℕ). accepts r (8 * length l)) (sym z)
-
--- so no two records have the same bytes
-pub written_once : (rules : Rules) (r r' u : List ℕ) → write_record_under rules r ≡ success u → write_record_under rules r' ≡ success u → r ≡ r'
-written_once rules r r' u e f = let i : accepts r (8 * length (unstuff (drop 2 u))) ≡ accepts r' (8 * length (unstuff (drop 2 u))) = sym (written_read rules r u e) ∙ written_read rules r' u f in cc

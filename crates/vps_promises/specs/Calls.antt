@@ -18,7 +18,8 @@ use Rattle.vps_definition.specs.Reading.Reading.{accepts, refuses}
 use Rattle.vps_definition.specs.Writing.{write_record, well_formed}
 use Rattle.vps_laws.specs.Claims.{refused_ill_formed}
 use Rattle.vps_laws.specs.Records.{of_record, ill_formed_refused}
-use Rattle.vps_laws.specs.Says.{Among, ReadingSays, rbsp_says}
+use Rattle.vps_laws.specs.Says.{Among, ReadingSays}
+use Rattle.vps_laws.proofs.Says.{rbsp_says}
 use Rattle.vps_reader.specs.Parse.{Parse, parse_number, parse_values, untouched, parse_of, record_after, parse_rbsp, parse_payload, parse_unit}
 use Rattle.vps_reader.specs.Parse as Parse
 use Rattle.vps_reader.specs.Parse.Parse.{accepted, too_short, refused}

@@ -11,7 +11,7 @@ use Rattle.vps_definition.specs.Reading.Reading.{accepts, refuses}
 use Rattle.vps_definition.specs.Writing.{all_flags, well_formed}
 use Rattle.vps_laws.specs.Claims.{well_formed_written}
 use Rattle.vps_laws.specs.LongerExtension.{unit_with_shorter_extension}
-use Rattle.vps_laws.specs.Changes as Changed
+use Rattle.vps_laws.proofs.Changes as Changed
 use Rattle.vps_promises.specs.Calls.{ReadCall, ReadRoom, Reads, Refuses, WriteCall, WriteRoom, Puts, accepted_reads, refuses_refused, written_puts}
 
 -- ── Extension bits run up to the last one-bit ─────────────────────────

@@ -16,7 +16,7 @@ use Rattle.vps_definition.specs.Reading.{rbsp_spans, most_rbsp_bytes, read_unit}
 use Rattle.vps_definition.specs.Reading.Reading.{accepts, refuses}
 use Rattle.vps_definition.specs.Writing.{well_formed}
 use Rattle.vps_laws.specs.Reading.{Each, Gapless}
-use Rattle.vps_laws.specs.Promises as Promised
+use Rattle.vps_laws.proofs.Promises as Promised
 use Rattle.vps_reader.specs.Parse.Parse.{accepted}
 use Rattle.vps_reader.specs.Answers.{parsed_answer}
 use Rattle.vps_writer.specs.Write.{written_answer}

@@ -16,13 +16,14 @@ use Rattle.vps_definition.specs.Record.{record_of}
 use Rattle.vps_definition.specs.Reading.{Reading, bits_at, data_bits, extension_bits, ended, closed, read_rbsp_under, read_rbsp, limited_by, read_limited, most_rbsp_bytes}
 use Rattle.vps_definition.specs.Reading.Reading.{accepts, refuses}
 use Rattle.vps_laws.specs.Extension.{bits_at_length, data_most}
-use Rattle.vps_laws.specs.Bound.{record_numbers, tokens_length, record_by_bits}
+use Rattle.vps_laws.specs.Bound.{record_numbers, tokens_length}
+use Rattle.vps_laws.proofs.Bound.{record_by_bits}
 use Rattle.vps_laws.specs.Marks.{starts_most}
 use Rattle.read_steps.specs.declared.Cursor.{Cursor}
 use Rattle.read_steps.specs.Fits.{Room, Fits, limit}
 use Rattle.read_steps.specs.Meets.{Went, Stopped, After}
 use Rattle.read_steps.specs.Marked.{Marked}
-use Rattle.read_bounds.specs.Bounds.{vps_fits, vps_room}
+use Rattle.read_bounds.proofs.Bounds.{vps_fits, vps_room}
 use Rattle.read_vps.specs.declared.Whole.{Whole}
 use Rattle.read_vps.specs.Whole.{general_in, starts_in}
 use Rattle.vps_reader.specs.declared.Measured.{Measured}

@@ -13,8 +13,9 @@ use Rattle.vps_definition.specs.Record.{start_of, end_of}
 use Rattle.vps_definition.specs.Reading.{Reading, read_rbsp, read_unit, most_rbsp_bytes, vps_nut}
 use Rattle.vps_definition.specs.Reading.Reading.{accepts, refuses}
 use Rattle.vps_laws.specs.Units.{accepted_unit}
-use Rattle.vps_laws.specs.Lookup.{Inside, section_inside}
-use Rattle.vps_laws.specs.Promises.{accepted_is_written}
+use Rattle.vps_laws.specs.Lookup.{Inside}
+use Rattle.vps_laws.proofs.Lookup.{section_inside}
+use Rattle.vps_laws.proofs.Promises.{accepted_is_written}
 use Rattle.vps_reader.specs.Parse.{Parsed, untouched, parse_of, record_after, parse_rbsp, parse_payload, parse_unit}
 use Rattle.texts.specs.Text.{Puts, puts_whole}
 use Rattle.text_numbers.specs.Counted.{puts_counts}

@@ -15,7 +15,7 @@ use Rattle.texts.specs.Text.{Puts, puts_whole}
 use Rattle.text_numbers.specs.Decimal.{decimal, places_most}
 use Rattle.text_numbers.specs.Counted.{puts_counts}
 use Rattle.sentences.specs.Sentences.{sentence_of}
-use Rattle.sentences.specs.Laws.{sentence_most}
+use Rattle.sentences.proofs.Laws.{sentence_most}
 use Rattle.vps_definition.specs.Reading.{Reading, read_rbsp, read_unit, most_rbsp_bytes, limited_by, vps_nut, unit_by}
 use Rattle.vps_definition.specs.Reading.Reading.{accepts, refuses}
 use Rattle.vps_reader.specs.Parse.{Parse, untouched, parse_of, parse_rbsp, parse_payload, parse_unit}

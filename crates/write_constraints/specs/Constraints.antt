@@ -4,7 +4,8 @@ use Rattle.std.proofs.Common.{ap, ap₂, ◌∙◌, arith, leb-true}
 use Rattle.vps_definition.specs.Syntax.{Syntax, ◌>>=◌}
 use Rattle.vps_definition.specs.Words.{inferred, keeps, repeat}
 use Rattle.vps_definition.specs.ProfileTierLevel.{ahead, number_of, constraint_bit, constraints}
-use Rattle.vps_laws.specs.Keeps.{Returns, keeps_bind, keeps_late, keeps_done, keeps_inferred}
+use Rattle.vps_laws.specs.Keeps.{Returns, keeps_late, keeps_done, keeps_inferred}
+use Rattle.vps_laws.proofs.Keeps.{keeps_bind}
 use Rattle.ptl_slots.specs.Standing.{standing, get_standing, standing_drop, standing_behind}
 use Rattle.ptl_slots.specs.Slot.{more_constraints}
 use Rattle.write_steps.specs.declared.Place.{Place}

@@ -3,7 +3,7 @@ use Rattle.std.specs.Prelude.{ℕ, ◌≤◌, ◌≡◌, List}
 use Rattle.std.proofs.Common.{sym}
 use Rattle.vps_definition.specs.Rules.{today}
 use Rattle.vps_definition.specs.Vps as Vps
-use Rattle.vps_laws.specs.Bound.{header_most}
+use Rattle.vps_laws.proofs.Bound.{header_most}
 use Rattle.write_steps.specs.declared.Place.{Place}
 use Rattle.write_steps.specs.Does.{Does}
 use Rattle.write_steps.specs.Laws.{does_other}

@@ -4,7 +4,8 @@ use Rattle.std.proofs.Common.{ap, arith, length-append, length-drop}
 use Rattle.vps_definition.specs.Syntax.{◌>>=◌, Token, numbers}
 use Rattle.vps_definition.specs.Words.{sum, when, aligned, keeps}
 use Rattle.vps_definition.specs.ProfileTierLevel.{falling, reversed, sub_profiles}
-use Rattle.vps_laws.specs.Keeps.{Keeps, Returns, Below, below_join, keeps_bind, keeps_late, keeps_done, keeps_keeps, numbers_append}
+use Rattle.vps_laws.specs.Keeps.{Keeps, Returns, Below, below_join, keeps_late, keeps_done, keeps_keeps, numbers_append}
+use Rattle.vps_laws.proofs.Keeps.{keeps_bind}
 use Rattle.ptl_slots.specs.Standing.{standing, Capped, capped_exact}
 use Rattle.write_steps.specs.declared.Place.{Place}
 use Rattle.write_steps.specs.Does.{Does}

@@ -15,7 +15,8 @@ use Rattle.vps_definition.specs.Vps.{Header, Head, head, slot_at, slot_number_if
 use Rattle.vps_laws.specs.Inversion.{Writes, emit_writes}
 use Rattle.vps_laws.specs.Inversion.Writes.{write_keep}
 use Rattle.vps_laws.specs.Loops.{loop_turn}
-use Rattle.vps_laws.specs.Keeps.{Silent, keeps_bind, keeps_late, keeps_test, keeps_done, keeps_check, keeps_aligned, keeps_loop}
+use Rattle.vps_laws.specs.Keeps.{Silent, keeps_late, keeps_test, keeps_done, keeps_check, keeps_aligned}
+use Rattle.vps_laws.proofs.Keeps.{keeps_bind, keeps_loop}
 use Rattle.vps_laws.specs.Heads.{head_at, head_last}
 use Rattle.ptl_slots.specs.Slot.{next_slot}
 use Rattle.ptl_tables.specs.Section.{head_of, Asked, slot_count, section_asked}

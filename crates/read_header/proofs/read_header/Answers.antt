@@ -5,7 +5,7 @@ use Rattle.vps_definition.specs.Rules.{today}
 use Rattle.vps_definition.specs.Words.{ruled, general_if}
 use Rattle.vps_definition.specs.Vps.{header_under}
 use Rattle.read_steps.specs.Laws.{meets_as, meets_then, meets_done}
-use Rattle.vps_laws.specs.Bound.{header_most}
+use Rattle.vps_laws.proofs.Bound.{header_most}
 use Rattle.read_header.specs.Headers.{same_sublayers}
 use Rattle.read_header.specs.Readings.{meets_general, meets_general_if, meets_other}
 use Rattle.read_header.proofs.read_header.Goals as goal

@@ -2,7 +2,8 @@
 use native.Mathlib.Omega.{arith}
 use Rattle.vps_definition.specs.Words.{general_if}
 use Rattle.vps_definition.specs.Vps.{sets_section}
-use Rattle.vps_laws.specs.Plain.{plain_done, plain_test, plain_check, plain_general_if, plain_rows_section, plain_no_rows}
+use Rattle.vps_laws.specs.Plain.{plain_done, plain_test}
+use Rattle.vps_laws.proofs.Plain.{plain_check, plain_general_if, plain_rows_section, plain_no_rows}
 use Rattle.read_steps.specs.Laws.{meets_as, meets_done}
 use Rattle.read_steps.specs.Marked.{marked_plain, marked_mark, marked_then}
 use Rattle.read_header.specs.Readings.{meets_general_if}

@@ -2,7 +2,8 @@
 use Rattle.read_steps.specs.Laws.{meets_done}
 use Rattle.read_steps.specs.Marked.{marked_plain, marked_mark, marked_then}
 use Rattle.vps_definition.specs.Vps.{multi_layer_sections}
-use Rattle.vps_laws.specs.Plain.{plain_u, plain_when, plain_done, plain_dpb_section, plain_timing_section}
+use Rattle.vps_laws.specs.Plain.{plain_done}
+use Rattle.vps_laws.proofs.Plain.{plain_u, plain_when, plain_dpb_section, plain_timing_section}
 use borrow.Author.Rules.{rules}
 use Rattle.read_vps.proofs.read_multi_layer_sections.Goals as goal
 

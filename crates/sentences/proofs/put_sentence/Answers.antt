@@ -1,7 +1,8 @@
 -- `put_sentence` meets its contract, word by word.
 use mathlib.Core.Path.{sym}
 use Rattle.texts.specs.Text.{puts_none, puts_same, puts_then}
-use Rattle.sentences.specs.Laws.{opened, in_table, nothing_past, nothing_at_zero, sentence_is}
+use Rattle.sentences.specs.Laws.{opened, in_table, nothing_past, nothing_at_zero}
+use Rattle.sentences.proofs.Laws.{sentence_is}
 use native.Mathlib.Omega.{arith}
 use Rattle.sentences.proofs.put_sentence.Goals as goal
 

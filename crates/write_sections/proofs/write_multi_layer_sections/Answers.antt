@@ -1,7 +1,8 @@
 -- `write_multi_layer_sections` meets its contract: the DPB section, the flag, and timing where it says so.
 use Rattle.write_steps.specs.Laws.{does_done}
 use Rattle.write_steps.specs.Marked.{marked_as, marked_plain, marked_mark, marked_then}
-use Rattle.vps_laws.specs.Plain.{plain_u, plain_when, plain_done, plain_dpb_section, plain_timing_section}
+use Rattle.vps_laws.specs.Plain.{plain_done}
+use Rattle.vps_laws.proofs.Plain.{plain_u, plain_when, plain_dpb_section, plain_timing_section}
 use Rattle.write_sections.specs.Asked.{sections_asked}
 use borrow.Author.Rules.{rules}
 use Rattle.write_sections.proofs.write_multi_layer_sections.Goals as goal

@@ -5,7 +5,8 @@ use Rattle.vps_definition.specs.Syntax.Syntax.{keep, mark, done}
 use Rattle.vps_definition.specs.Syntax.{◌>>=◌}
 use Rattle.vps_definition.specs.Vps.{single_layer_sections}
 use Rattle.vps_definition.specs.Words.{inferred}
-use Rattle.vps_laws.specs.Plain.{plain_inferred, plain_done}
+use Rattle.vps_laws.specs.Plain.{plain_done}
+use Rattle.vps_laws.proofs.Plain.{plain_inferred}
 use Rattle.write_sections.proofs.write_single_layer_sections.Goals as goal
 
 pub returns : goal.returns

@@ -1,7 +1,8 @@
 -- `write_sets` meets its contract: the words stand in the table's order, and then the sets by mode.
 use Rattle.vps_definition.specs.Vps.{sets_section}
 use Rattle.vps_definition.specs.Words.{general_if}
-use Rattle.vps_laws.specs.Plain.{plain_done, plain_test, plain_check, plain_general_if, plain_rows_section, plain_no_rows}
+use Rattle.vps_laws.specs.Plain.{plain_done, plain_test}
+use Rattle.vps_laws.proofs.Plain.{plain_check, plain_general_if, plain_rows_section, plain_no_rows}
 use Rattle.write_steps.specs.Laws.{does_as, does_done}
 use Rattle.write_steps.specs.Marked.{marked_plain, marked_mark, marked_then}
 use borrow.Author.Rules.{rules}

@@ -2,7 +2,8 @@
 use Rattle.vps_definition.specs.Rules.{today}
 use Rattle.vps_definition.specs.Vps.{ptl_section, ols_section, buffer_sections, vps_under}
 use Rattle.vps_definition.specs.Words.{ruled, general}
-use Rattle.vps_laws.specs.Plain.{plain_header, plain_general, plain_layers_section, plain_ptl_section, plain_ols_section, plain_done}
+use Rattle.vps_laws.specs.Plain.{plain_done}
+use Rattle.vps_laws.proofs.Plain.{plain_header, plain_general, plain_layers_section, plain_ptl_section, plain_ols_section}
 use Rattle.write_steps.specs.Laws.{does_as, does_done}
 use Rattle.write_steps.specs.Marked.{marked_as, marked_plain, marked_mark, marked_then}
 use mathlib.Core.Path.{refl, sym, ap}

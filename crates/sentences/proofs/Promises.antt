@@ -3,7 +3,8 @@ use Rattle.std.specs.Prelude.{ℕ, ◌≡◌, List, ◌⊎◌}
 use Rattle.std.proofs.Common.{sym, ap, ◌∙◌, subst, inl, inr}
 use Rattle.sentences.specs.Sentences.{words_of, sentence_of, number_of}
 use Rattle.sentences.specs.Words.{ThreeParts, three_parts}
-use Rattle.sentences.specs.Laws.{InTable, good, Says, number_or_none}
+use Rattle.sentences.specs.Laws.{InTable, Says}
+use Rattle.sentences.proofs.Laws.{good, number_or_none}
 
 -- each number of the table: three words, none empty, none with a blank, joined by single blanks
 pub sentence_has_three_parts : (n : ℕ) → InTable n → ThreeParts (sentence_of n)

@@ -12,9 +12,11 @@ use Rattle.vps_definition.specs.Reading.{rbsp_spans, most_rbsp_bytes, read_unit}
 use Rattle.vps_definition.specs.Reading.Reading.{accepts}
 use Rattle.vps_definition.specs.Writing.{write_record, well_formed}
 use Rattle.vps_laws.specs.Reading.{Each, Gapless}
-use Rattle.vps_laws.specs.Units.{written_read, written_once}
-use Rattle.vps_laws.specs.Claims.{ids_many, rising, below, accepted_reads, accepted_sound, accepted_written, written_well_formed, well_formed_written, spans_used, bits_counted}
-use Rattle.vps_laws.specs.UsedBits.{unit_used, unit_appended}
+use Rattle.vps_laws.proofs.Units.{written_read, written_once}
+use Rattle.vps_laws.specs.Claims.{ids_many, rising, below, accepted_reads, written_well_formed, well_formed_written}
+use Rattle.vps_laws.proofs.Claims.{accepted_sound, accepted_written, spans_used, bits_counted}
+use Rattle.vps_laws.proofs.UsedBitsThen.{unit_used}
+use Rattle.vps_laws.proofs.UsedBitsThen2.{unit_appended}
 
 -- 1. Every accepted unit's record is well formed and is written; what was written is accepted with that record,
 -- and the bits used are eight times its RBSP's bytes.

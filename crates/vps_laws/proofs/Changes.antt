@@ -10,9 +10,10 @@ use Rattle.vps_definition.specs.Reading.{Reading, read_unit_under}
 use Rattle.vps_definition.specs.Reading.Reading.{accepts, refuses}
 use Rattle.vps_definition.specs.Writing.{all_flags, well_formed_under}
 use Rattle.vps_laws.specs.Units.{not_accepts}
-use Rattle.vps_laws.specs.LongerExtension.{unit_with_shorter_extension, Longer, answer_longer}
+use Rattle.vps_laws.specs.LongerExtension.{unit_with_shorter_extension, Longer}
+use Rattle.vps_laws.proofs.LongerExtension.{answer_longer}
 use Rattle.vps_laws.specs.LongerExtension.Longer.{as_before, ends_in_zero}
-use Rattle.vps_laws.specs.AnyExtension.{others_well_formed}
+use Rattle.vps_laws.proofs.AnyExtension.{others_well_formed}
 
 -- ── Extension bits run up to the last one-bit ─────────────────────────
 -- A unit that was accepted is accepted, with the same record and bits used.
