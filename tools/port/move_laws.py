@@ -19,9 +19,13 @@ START = re.compile(rf"^((?:pub |abbrev |unfoldable )*)(data |record )?({NAME})((
 USE = re.compile(r"^use (\S+?)(?:\.\{([^}]*)\})?(?: as (\S+))?$")
 
 
+OTHER = re.compile(rf"^(?:(?:pub |abbrev |unfoldable )*(data|record|ruleset) ({NAME})|(module) _ )")
+
+
 class Block:
     def __init__(self, module, name, lines, kind):
         self.module, self.name, self.lines, self.kind = module, name, lines, kind
+        # what is declared inside: a type's constructors, a section's theorems
         self.inner = set()
 
     def text(self):
@@ -43,10 +47,13 @@ def parse(path, module):
         if l.startswith("use "):
             uses.append(l)
             continue
-        m = START.match(l)
-        if m:
-            kind = (m[2] or "").strip() or "def"
-            current = Block(module, m[3], wait + [l], kind)
+        m, o = START.match(l), OTHER.match(l)
+        if o:
+            current = Block(module, o[2] or f"the section of {len(blocks)} blocks", wait + [l], o[1] or o[3])
+            blocks.append(current)
+            wait = []
+        elif m:
+            current = Block(module, m[3], wait + [l], "def")
             blocks.append(current)
             wait = []
         elif re.match(r"infix", l):
@@ -81,6 +88,8 @@ def parse(path, module):
         if b.kind == "data":
             b.inner = set(re.findall(rf"^  ((?:{NAME} )+):", b.bare(), re.M))
             b.inner = {n for s in b.inner for n in s.split()}
+        if b.kind == "module":
+            b.inner = set(re.findall(rf"^  (?:pub |abbrev |unfoldable )*(?:record |data )?({NAME})(?: \{{[^{{}}]*\}})* :", b.bare(), re.M))
     return head, uses, blocks, wait
 
 
@@ -112,6 +121,7 @@ def load(crate):
 def graph(modules, crate):
     """What each block names."""
     edges = {}
+    block_of = {(m, n): b.name for m, (p, head, uses, blocks, _) in modules.items() for b in blocks for n in {b.name} | (b.inner if b.kind == "module" else set())}
     for m, (p, head, uses, blocks, _) in modules.items():
         own = {b.name: b.name for b in blocks}
         own.update({n: b.name for b in blocks for n in b.inner})
@@ -123,10 +133,11 @@ def graph(modules, crate):
                 if w in own and own[w] != b.name:
                     seen.add((m, own[w]))
                 elif w in brought:
-                    seen.add(brought[w])
+                    q = brought[w]
+                    seen.add((q[0], block_of.get(q, q[1])))
             for a, mod in alias.items():
                 for q in re.findall(rf"(?<![\w.]){re.escape(a)}\.({NAME})", b.bare()):
-                    seen.add((mod, q))
+                    seen.add((mod, block_of.get((mod, q), q)))
             edges[m, b.name] = seen
     return edges
 
@@ -189,7 +200,7 @@ def main(argv):
     edges = graph(modules, crate)
     roots = rejected(logs, modules)
     # a theorem of a where block stands under its owner
-    owners = {}
+    owners = {(m, n): b.name for m, (p, head, uses, blocks, _) in modules.items() for b in blocks for n in b.inner}
     for m, (p, head, uses, blocks, _) in modules.items():
         for b in blocks:
             for n in re.findall(rf"^\s+(?:pub )?({NAME})(?: \{{[^{{}}]*\}})* :", b.bare(), re.M):
@@ -223,11 +234,14 @@ def main(argv):
             needed = any(m2 == m and (m, b.name) in edges[m2, n2] for m2, n2 in moved)
             for i, l in enumerate(b.lines):
                 s = START.match(l)
+                if not s and OTHER.match(l) and OTHER.match(l)[2] == b.name and needed and not l.startswith("pub "):
+                    b.lines[i] = "pub " + l
+                    break
                 if s and s[3] == b.name:
                     words = s[1].split()
                     if needed and "pub" not in words:
                         words.append("pub")
-                    if (m, b.name) in opened and "unfoldable" not in words and "abbrev" not in words and not s[2]:
+                    if (m, b.name) in opened and "unfoldable" not in words and "abbrev" not in words:
                         words.insert(0, "unfoldable")
                     order = [w for w in ("abbrev", "unfoldable", "pub") if w in words]
                     b.lines[i] = " ".join(order + [""] if order else []) + l[len(s[1]):] if order else l
@@ -241,11 +255,11 @@ def main(argv):
         bare = "\n".join(b.bare() for b in go)
         own = []
         words = set(re.findall(NAME, bare))
-        plain = [b.name for b in stay if b.name in words or b.name.strip("◌") in bare and "◌" in b.name]
+        plain = [n for b in stay for n in ([b.name] if b.kind != "module" else sorted(b.inner)) if n in words or n.strip("◌") in bare and "◌" in n]
         if plain:
             own.append(f"use Rattle.{crate}.specs.{m}.{{{', '.join(plain)}}}")
         for b in stay:
-            if b.inner & words:
+            if b.kind == "data" and b.inner & words:
                 own.append(f"use Rattle.{crate}.specs.{m}.{b.name}.{{{', '.join(sorted(b.inner & words))}}}")
         lines = head + kept_uses(uses, bare) + own + ["", text, ""]
         target = f"crates/{crate}/proofs/{m}.antt"
@@ -277,7 +291,7 @@ def main(argv):
             if re.sub(r"\s+", " ", new) != re.sub(r"\s+", " ", was):
                 print(f"look: {p}")
     # the lines that import what moved
-    names = {(m, n) for m, n in moved}
+    names = {(m, n) for m, (p, head, uses, blocks, _) in modules.items() for b in blocks if (m, b.name) in moved for n in {b.name} | b.inner}
     for f in sorted(glob.glob("crates/*/src/*.rt") + glob.glob("crates/*/specs/*.antt") + glob.glob("crates/*/proofs/**/*.antt", recursive=True)):
         with open(f, encoding="utf-8") as it:
             text = it.read()
