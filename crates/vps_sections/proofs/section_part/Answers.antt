@@ -10,7 +10,7 @@ pub returns-then-not-is_well_formed : goal.returns-then-not-is_well_formed
 returns-then-not-is_well_formed c = part_ill_formed _ _ c.is_well_formed.ensures (not_from_false _ c.if-not-is_well_formed.true)
 
 pub overflow_sub-result : goal.overflow_sub-result
-overflow_sub-result c = part_rises _ _ c.is_well_formed.ensures c.if-number-gt-LAST.false (not_from_true _ c.if-not-is_well_formed.false) c.start_of-start.ensures c.end_of_lem.ensures
+overflow_sub-result c = part_rises _ _ c.is_well_formed.ensures c.if-number-gt-LAST.false (not_from_true _ c.if-not-is_well_formed.false) c.start_of-start.ensures c.end_of-end.ensures
 
 pub returns : goal.returns
-returns c = part_listed _ _ c.is_well_formed.ensures c.if-number-gt-LAST.false (not_from_true _ c.if-not-is_well_formed.false) c.start_of-start.ensures c.end_of_lem.ensures
+returns c = part_listed _ _ c.is_well_formed.ensures c.if-number-gt-LAST.false (not_from_true _ c.if-not-is_well_formed.false) c.start_of-start.ensures c.end_of-end.ensures
