@@ -17,7 +17,7 @@ use Rattle.vps_definition.specs.Reading.{Reading, read_rbsp, limited_by, unit_by
 use Rattle.vps_definition.specs.Reading.Reading.{accepts, refuses}
 use Rattle.vps_definition.specs.Writing.{write_record, well_formed}
 use Rattle.vps_laws.specs.Claims.{refused_ill_formed}
-use Rattle.vps_laws.specs.Records.{of_record, ill_formed_refused}
+use Rattle.vps_laws.specs.Records.{ill_formed_refused}
 use Rattle.vps_laws.specs.Says.{Among, ReadingSays}
 use Rattle.vps_laws.proofs.Says.{rbsp_says}
 use Rattle.vps_reader.specs.Parse.{Parse, parse_number, parse_values, untouched, parse_of, record_after, parse_rbsp, parse_payload, parse_unit}
@@ -87,14 +87,14 @@ pub record Puts {r : List ℕ} (c : WriteCall r) (u : List ℕ) : Type 0 where
   pub is : take (length u) c.out_after ≡ u
 
 -- ── Numbers over the beginning of a lent slice ────────────────────────
-behind_left : (x lent : List ℕ) {after : List ℕ} → length x ≤ length lent → after ≡ overlaid x lent → (length after ≡ length lent) × (drop (length x) after ≡ drop (length x) lent)
+pub behind_left : (x lent : List ℕ) {after : List ℕ} → length x ≤ length lent → after ≡ overlaid x lent → (length after ≡ length lent) × (drop (length x) after ≡ drop (length x) lent)
 behind_left x lent l e = (
   omega (arith, ap length e, length-append x (drop (length x) lent), length-drop (length x) lent, l),
   ap (drop (length x)) e ∙ drop-append_seam x (drop (length x) lent),
 )
 
 -- ── The reader and its definition ─────────────────────────────────────
-not_accepted : {A : Type 0} {k m n : ℕ} → refused k ≡ accepted m n → A
+pub not_accepted : {A : Type 0} {k m n : ℕ} → refused k ≡ accepted m n → A
 not_accepted e = absurd (let n : ◌≡◌ {A = ℕ} 0 1 = cc in omega arith)
 
 not_accepts : {A : Type 0} {k n : ℕ} {r : List ℕ} → refuses k ≡ accepts r n → A
@@ -136,14 +136,14 @@ way (a ∷ b ∷ s) work rec = typed (eqb (b / 8) vps_nut) refl
 
 module _ (rec : List ℕ) where
   -- a record that fits
-  record Fits (x : Reading) (m n : ℕ) : Type 0 where
+  pub record Fits (x : Reading) (m n : ℕ) : Type 0 where
     r : List ℕ
     is : x ≡ accepts r n
     long : length r ≡ m
     room : length r ≤ length rec
     left : record_after rec x ≡ r ++ drop (length r) rec
 
-  fits : (x : Reading) (m n : ℕ) → parse_of rec x ≡ accepted m n → Fits x m n
+  pub fits : (x : Reading) (m n : ℕ) → parse_of rec x ≡ accepted m n → Fits x m n
   unfolding parse_of record_after
   fits (refuses k) m n e = not_accepted e
   fits (accepts r k) m n e = go (leb (length r) (length rec)) refl e
@@ -180,12 +180,12 @@ module _ {u : List ℕ} (c : ReadCall u) {x : Parse.Parsed} (q : parse_unit u c.
   rec_is = c.gives.left ∙ ap (λ (y : Parse.Parsed). y.vps_record) q
 
 -- what success is
-record Filled {u : List ℕ} (c : ReadCall u) (r : List ℕ) (n : ℕ) : Type 0 where
-  is : read_unit u ≡ accepts r n
-  fits : length r ≤ length c.rec
-  left : c.rec_after ≡ r ++ drop (length r) c.rec
+pub record Filled {u : List ℕ} (c : ReadCall u) (r : List ℕ) (n : ℕ) : Type 0 where
+  pub is : read_unit u ≡ accepts r n
+  pub fits : length r ≤ length c.rec
+  pub left : c.rec_after ≡ r ++ drop (length r) c.rec
 
-reads_filled : {u r : List ℕ} {n : ℕ} (c : ReadCall u) → Reads c r n → Filled c r n
+pub reads_filled : {u r : List ℕ} {n : ℕ} (c : ReadCall u) → Reads c r n → Filled c r n
 unfolding parse_rbsp
 reads_filled {u} {r} {n} c R = go (way u c.work c.rec)
   where
@@ -207,14 +207,6 @@ reads_filled {u} {r} {n} c R = go (way u c.work c.rec)
           fits = omega (arith, F.room, F.long);
           left = after ∙ ap (λ (x : List ℕ). x ++ drop (length x) c.rec) same;
         }
-
--- success is acceptance by the definition, with that record and those bits
-pub reads_accepted : {u r : List ℕ} {n : ℕ} (c : ReadCall u) → Reads c r n → read_unit u ≡ accepts r n
-reads_accepted c R = (reads_filled c R).is
-
--- and leaves what was behind the record
-pub reads_leaves : {u r : List ℕ} {n : ℕ} (c : ReadCall u) → Reads c r n → (length c.rec_after ≡ length c.rec) × (drop (length r) c.rec_after ≡ drop (length r) c.rec)
-reads_leaves {r = r} c R = let F = reads_filled c R in behind_left r c.rec F.fits F.left
 
 -- and the reader with long enough buffers succeeds on each accepted unit
 pub accepted_reads : {u r : List ℕ} {n : ℕ} (c : ReadCall u) → ReadRoom c → read_unit u ≡ accepts r n → Reads c r n
@@ -407,7 +399,7 @@ late_fills_work {u} c h = go (way u c.work c.rec)
     go (whole l g q) = (l, work_is c q)
 
 -- ── The writer and its definition ─────────────────────────────────────
-not_success : {A : Type 0} {k n : ℕ} → ◌≡◌ {A = Answer ℕ} (refusal k) (success n) → A
+pub not_success : {A : Type 0} {k n : ℕ} → ◌≡◌ {A = Answer ℕ} (refusal k) (success n) → A
 not_success e = absurd (let n : ◌≡◌ {A = ℕ} 0 1 = cc in omega arith)
 
 -- what success is
@@ -477,14 +469,3 @@ refuses_ill_formed {r} c e = go (write_record r) refl (sym c.gives.answered ∙ 
     go : (x : Answer (List ℕ)) → write_record r ≡ x → write_of c.out x ≡ refusal not_well_formed → well_formed r ≡ false
     go (refusal k) f a = refused_ill_formed today r f
     go (success b) f a = fit (length b) (leb (length b) (length c.out)) a
-
--- a long enough output is not too short
-pub output_enough : {r : List ℕ} (c : WriteCall r) → WriteRoom c → written_answer c.answer ≡ refusal output_too_short → ⊥
-unfolding write_of
-output_enough {r} c room e = of_record today (λ x. write_record r ≡ x → ⊥) (λ f. other (answer f)) (λ rbsp l f. not_success (sym e ∙ (written_puts c room f).answered)) r refl
-  where
-    answer : write_record r ≡ refusal not_well_formed → ◌≡◌ {A = Answer ℕ} (refusal output_too_short) (refusal not_well_formed)
-    answer f = sym e ∙ c.gives.answered ∙ ap (write_of c.out) f
-
-    other : ◌≡◌ {A = Answer ℕ} (refusal output_too_short) (refusal not_well_formed) → ⊥
-    other q = let i : output_too_short ≡ not_well_formed = cc in omega (arith, i)
