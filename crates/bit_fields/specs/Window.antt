@@ -1,6 +1,6 @@
 -- Where a window of eight bytes is laid.
 use Rattle.std.specs.Prelude.{ℕ, ◌-◌, ◌≤◌, ◌≡◌, refl, Bool, true, false, cond, ltb}
-use Rattle.std.proofs.Common.{arith, ltb-true, ltb-false}
+use Rattle.std.proofs.Common.{arith, ltb-false}
 
 -- at byte i of n, or before it, so that the window does not reach past the end where n is 8 or more
 unfoldable pub window_start : ℕ → ℕ → ℕ

@@ -1,8 +1,7 @@
 -- The trailing bits: where they stand, what they are read as, and which bits they use.
-use Rattle.std.specs.Prelude.{ℕ, ◌+◌, ◌*◌, ◌%◌, ◌^◌, ◌≤◌, ◌<◌, ◌≡◌, refl, List, Bool, true, false, cond, ltb, eqb, length, replicate}
-use Rattle.std.proofs.Common.{sym, ap, ◌∙◌, arith, ltb-true, eqb-true, lt-ltb, eq-eqb, pow_pos}
+use Rattle.std.specs.Prelude.{ℕ, ◌+◌, ◌*◌, ◌%◌, ◌≤◌, ◌<◌, ◌≡◌, refl, List, Bool, true, false, cond, ltb, eqb, length, replicate}
+use Rattle.std.proofs.Common.{sym, ◌∙◌, arith, ltb-true, eqb-true, lt-ltb, eq-eqb, pow_pos}
 use Rattle.std.proofs.lemmas.List.{length-replicate}
-use Rattle.refusals.specs.Answer.{Answer}
 use Rattle.refusals.specs.Answer.Answer.{success, refusal}
 use Rattle.bits.specs.Bits.{bit_at, field_at, to_boundary}
 use Rattle.bits.specs.Reading.{trailing_at}

@@ -12,7 +12,7 @@ use Rattle.std.proofs.lemmas.Bool.{eqb-false}
 use Rattle.refusals.specs.Answer.Answer.{success, refusal}
 use Rattle.bits.specs.Bits.{weight, bit_at, field_at, bits_of, with_bit, set_bit, set_bits}
 use Rattle.bits.specs.Code.{code_at, code_of}
-use Rattle.bits.specs.Code.Taken.{taken, refused}
+use Rattle.bits.specs.Code.Taken.{taken}
 use Rattle.bits.specs.Reading.{place_good, read_field, read_code}
 use Rattle.bits.specs.Writing.{has_room, write_bits, buffer_after, field_good, code_good}
 use Rattle.bits.specs.FieldLaws.{BitsAt, bits_length, field_bits}

@@ -1,7 +1,7 @@
 // Reads what DPB slots, timing entries and sets share: indices into a table of entries, and an entry's max tid.
 #![tactic(auto)]
 
-ghost use Rattle.std.specs.Prelude.{◌≡◌, ℕ};
+ghost use Rattle.std.specs.Prelude.{◌≡◌};
 ghost use Rattle.vps_definition.specs.Words.{loop};
 ghost use Rattle.vps_definition.specs.DpbParameters.{index};
 ghost use Rattle.read_steps.specs.Meets.{Meets};

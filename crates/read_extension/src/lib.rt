@@ -1,7 +1,7 @@
 // Finds and stores the extension's bits, which more_rbsp_data() bounds.
 #![tactic(auto)]
 
-ghost use Rattle.std.specs.Prelude.{◌≡◌, List, ℕ, ◌+◌, ◌*◌, ◌-◌, ◌≤◌, ◌<◌, length};
+ghost use Rattle.std.specs.Prelude.{◌≡◌, ◌+◌, ◌*◌, ◌-◌, ◌≤◌, ◌<◌, length};
 ghost use Rattle.std.proofs.lemmas.List.Edits.{sets};
 ghost use Rattle.vps_definition.specs.Reading.{bits_at, data_bits, most_rbsp_bytes};
 ghost use Rattle.read_steps.specs.Fits.{limit};

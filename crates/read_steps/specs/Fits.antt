@@ -1,6 +1,6 @@
 -- Readings whose places and cursors stay below a limit: what the code's sums need, shown once for the whole table.
-use Rattle.std.specs.Prelude.{ℕ, zero, suc, ◌+◌, ◌^◌, ◌<◌, ◌≡◌, refl, List, [], ◌∷◌, ◌++◌, Bool, true, false, length}
-use Rattle.std.proofs.Common.{sym, ap, ◌∙◌, subst, add-zero, arith}
+use Rattle.std.specs.Prelude.{ℕ, suc, ◌+◌, ◌^◌, ◌<◌, ◌≡◌, List, true, false, length}
+use Rattle.std.proofs.Common.{sym, subst, add-zero, arith}
 use Rattle.bits.specs.Bits.{field_at, to_boundary}
 use Rattle.bits.specs.Code.{code_at}
 use Rattle.bits.specs.Code as Code

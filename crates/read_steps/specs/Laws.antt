@@ -8,7 +8,7 @@ use Rattle.std.proofs.lemmas.List.{take-append-le}
 use Rattle.std.proofs.Math.Seq.{take-append-add}
 use Rattle.lists.specs.Stored.{sets_append}
 use Rattle.vps_definition.specs.Syntax.{Syntax, ◌>>=◌, Token, numbers, Outcome, run}
-use Rattle.vps_definition.specs.Syntax.Syntax.{code, test, done}
+use Rattle.vps_definition.specs.Syntax.Syntax.{test, done}
 use Rattle.vps_definition.specs.Syntax.Outcome.{accepted, refused}
 use Rattle.vps_definition.specs.Words.{loop}
 use Rattle.vps_laws.specs.Bind.{after, then_read}

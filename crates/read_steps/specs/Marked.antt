@@ -1,5 +1,5 @@
 -- Code over tables that mark sections: where each section starts is the cursor's number at its mark.
-use Rattle.std.specs.Prelude.{ℕ, ◌+◌, ◌≡◌, refl, List, [], ◌∷◌, ◌++◌, Bool, true, false, length}
+use Rattle.std.specs.Prelude.{ℕ, ◌+◌, ◌≡◌, refl, List, [], ◌∷◌, ◌++◌, Bool, true, false}
 use Rattle.std.proofs.Common.{sym, ap, ◌∙◌, subst}
 use Rattle.vps_definition.specs.Syntax.{Syntax, ◌>>=◌, Token, numbers, starts, keeping, Outcome, run}
 use Rattle.vps_definition.specs.Syntax.Syntax.{mark, test}
@@ -11,7 +11,7 @@ use Rattle.vps_laws.specs.Marks.{starts_append, starts_none}
 use Rattle.vps_laws.specs.Plain.{Plain}
 use Rattle.read_steps.specs.declared.Cursor.{Cursor}
 use Rattle.read_steps.specs.Fits.{Fits, fits_first, fits_second}
-use Rattle.read_steps.specs.Meets.{Went, Stopped, After, Meets}
+use Rattle.read_steps.specs.Meets.{Went, After, Meets}
 use Rattle.read_steps.specs.Laws.{meets_then, meets_yes, meets_no}
 
 -- the code meets the table, and where that is accepted its sections start at these numbers

@@ -1,7 +1,7 @@
 // A cursor over an RBSP and a lent record, and the words of a syntax table that read no bits: each goes from a cursor to the next.
 #![tactic(auto)]
 
-ghost use Rattle.std.specs.Prelude.{◌≡◌, List, ℕ, ◌+◌, ◌<◌, ◌≤◌, ◌^◌, set};
+ghost use Rattle.std.specs.Prelude.{◌≡◌, List, ℕ, ◌+◌, ◌<◌, set};
 ghost use Rattle.vps_definition.specs.Words.{inferred, check, aligned};
 ghost use Rattle.read_steps.specs.Meets.{Meets, Tested, Shuts};
 

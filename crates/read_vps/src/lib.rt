@@ -1,7 +1,7 @@
 // Reads the table of a VPS, section by section, with where each starts in the record.
 #![tactic(auto)]
 
-ghost use Rattle.std.specs.Prelude.{◌≡◌, List, [], ◌∷◌, ℕ, ◌≤◌};
+ghost use Rattle.std.specs.Prelude.{List, [], ◌∷◌, ℕ, ◌≤◌};
 ghost use Rattle.vps_definition.specs.Words.{when};
 ghost use Rattle.vps_definition.specs.TimingHrd.{timing_section};
 ghost use Rattle.vps_definition.specs.Vps.{ptl_section, ols_section, multi_layer_sections, single_layer_sections, buffer_sections, vps};

@@ -1,5 +1,5 @@
 -- Output layer sets (H.266 clause 7.4.3.3): which layers refer to which, which layers a set includes, and how many sets have several.
-use Rattle.std.specs.Prelude.{ℕ, zero, suc, ◌+◌, ◌<◌, ◌≡◌, List, [], ◌∷◌, Bool, true, false, ◌&&◌, ◌||◌, ltb, leb, eqb, length, get_or}
+use Rattle.std.specs.Prelude.{ℕ, zero, suc, ◌+◌, ◌<◌, ◌≡◌, List, [], Bool, true, false, ◌&&◌, ◌||◌, ltb, leb, eqb, length, get_or}
 
 -- ── Layers by number ──────────────────────────────────────────────────
 -- some k below n has the property

@@ -1,7 +1,7 @@
 -- Worked views of one record: three layers of which the third refers to the second and that to the first, and two timing entries of
 -- two sublayers and one, each sublayer with two NAL and two VCL schedules.
-use Rattle.std.specs.Prelude.{ℕ, ◌≡◌, refl, List, [], ◌∷◌, Bool, true, false, get_or, take}
-use Rattle.vps_definition.specs.OutputLayerSets.{total_num_olss, num_layers_in_ols, num_multi_layer_olss}
+use Rattle.std.specs.Prelude.{ℕ, ◌≡◌, refl, List, [], ◌∷◌, true, false, get_or, take}
+use Rattle.vps_definition.specs.OutputLayerSets.{total_num_olss, num_multi_layer_olss}
 use Rattle.vps_definition.specs.OutputLayerSets.Sets.{up_to}
 use Rattle.vps_definition.specs.Writing.{well_formed}
 use Rattle.vps_definition.specs.Layout.{from_section, set_count, multi_count, timing_count, timing_indices, extension_in}

@@ -1,5 +1,5 @@
 -- Views of a record: what its tables ended in, and where the numbers of its timing section stand, from its own numbers alone.
-use Rattle.std.specs.Prelude.{ℕ, zero, suc, ◌+◌, ◌*◌, List, [], ◌∷◌, Bool, cond, eqb, get_or, drop}
+use Rattle.std.specs.Prelude.{ℕ, zero, suc, ◌+◌, ◌*◌, List, [], Bool, cond, eqb, get_or, drop}
 use Rattle.vps_definition.specs.Syntax.{look}
 use Rattle.vps_definition.specs.OutputLayerSets.{Sets, in_set}
 use Rattle.vps_definition.specs.OutputLayerSets.Sets.{each_layer}

@@ -1,5 +1,5 @@
 -- What the first pass over an RBSP finds: a refusal, or all that the second pass needs to fill a record.
-use Rattle.std.specs.Prelude.{ℕ, ◌+◌, ◌-◌, ◌≤◌, ◌<◌, ◌*◌, ◌^◌, ◌≡◌, refl, List, Bool, true, false, leb, eqb, length, get_or}
+use Rattle.std.specs.Prelude.{ℕ, ◌+◌, ◌-◌, ◌≤◌, ◌<◌, ◌*◌, ◌^◌, ◌≡◌, refl, List, Bool, true, false, eqb, length, get_or}
 use Rattle.std.proofs.Common.{sym, ◌∙◌, subst, arith, le-leb}
 use Rattle.std.proofs.Math.Path.{ap}
 use Rattle.std.proofs.lemmas.Bool.{lt-leb}
@@ -13,15 +13,15 @@ use Rattle.vps_definition.specs.Syntax.{Token, numbers, starts, Outcome, run}
 use Rattle.vps_definition.specs.Syntax.Outcome.{accepted, refused}
 use Rattle.vps_definition.specs.Vps.{vps}
 use Rattle.vps_definition.specs.Record.{record_of}
-use Rattle.vps_definition.specs.Reading.{Reading, bits_at, data_bits, extension_bits, ended, closed, read_rbsp_under, read_rbsp, limited_by, read_limited, most_rbsp_bytes}
+use Rattle.vps_definition.specs.Reading.{bits_at, data_bits, extension_bits, ended, closed, read_rbsp_under, read_rbsp, limited_by, read_limited, most_rbsp_bytes}
 use Rattle.vps_definition.specs.Reading.Reading.{accepts, refuses}
 use Rattle.vps_laws.specs.Extension.{bits_at_length, data_most}
 use Rattle.vps_laws.specs.Bound.{record_numbers, tokens_length}
 use Rattle.vps_laws.proofs.Bound.{record_by_bits}
 use Rattle.vps_laws.specs.Marks.{starts_most}
 use Rattle.read_steps.specs.declared.Cursor.{Cursor}
-use Rattle.read_steps.specs.Fits.{Room, Fits, limit}
-use Rattle.read_steps.specs.Meets.{Went, Stopped, After}
+use Rattle.read_steps.specs.Fits.{Fits}
+use Rattle.read_steps.specs.Meets.{Went, After}
 use Rattle.read_steps.specs.Marked.{Marked}
 use Rattle.read_bounds.proofs.Bounds.{vps_fits, vps_room}
 use Rattle.read_vps.specs.declared.Whole.{Whole}

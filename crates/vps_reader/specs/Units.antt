@@ -16,7 +16,7 @@ use Rattle.stuffing.specs.Laws.{unstuff_length}
 use Rattle.stuffing.specs.Answers.{stuffed_answer, Lends}
 use Rattle.stuffing.specs.declared.Stuffed.{Stuffed}
 use Rattle.stuffing.specs.declared.Stuffed as Said
-use Rattle.vps_definition.specs.Reading.{read_rbsp, read_limited, most_rbsp_bytes, vps_nut}
+use Rattle.vps_definition.specs.Reading.{read_limited, most_rbsp_bytes, vps_nut}
 use Rattle.vps_reader.specs.Parse.{untouched, parse_of, record_after, parse_rbsp, parse_payload, parse_unit}
 use Rattle.vps_reader.specs.Parse as Parse
 use Rattle.vps_reader.specs.Measures.{limited_short}

@@ -1,18 +1,18 @@
 // Reads a VPS unit into a lent record: a first pass measures, a second fills, by the same code.
 #![tactic(auto)]
 
-ghost use Rattle.std.specs.Prelude.{◌≡◌, List, [], ◌∷◌, ℕ, ◌+◌, ◌^◌, ◌≤◌, ◌<◌, ltb, length, get_or, set};
+ghost use Rattle.std.specs.Prelude.{◌≡◌, List, ℕ, ◌+◌, ◌^◌, ◌≤◌, ◌<◌, ltb, length, get_or, set};
 ghost use Rattle.std.proofs.lemmas.List.Edits.{sets};
 ghost use Rattle.stuffing.specs.Stuffing.{unstuff};
 ghost use Rattle.bits.specs.Reading.{trailing_at};
 ghost use Rattle.bit_reader.specs.Answers.{moved_answer};
 ghost use Rattle.vps_definition.specs.Syntax.{numbers};
-ghost use Rattle.vps_definition.specs.Reading.{bits_at, extension_bits, read_limited, most_rbsp_bytes};
+ghost use Rattle.vps_definition.specs.Reading.{extension_bits, read_limited, most_rbsp_bytes};
 ghost use Rattle.read_steps.specs.Fits.{limit};
 ghost use Rattle.read_vps.specs.Whole.{general_in, starts_in};
 ghost use Rattle.vps_reader.specs.Parse.{parse_payload, parse_unit};
 ghost use Rattle.vps_reader.specs.Copied.{part};
-ghost use Rattle.vps_reader.specs.Measures.{Table, Found, Kept, Measures, record_in};
+ghost use Rattle.vps_reader.specs.Measures.{Table, Kept, Measures, record_in};
 ghost use Rattle.vps_reader.specs.Answers.{Answers, Gives};
 
 use bit_reader::Moved;

@@ -7,7 +7,7 @@ use Rattle.vps_definition.specs.Rules.{today}
 use Rattle.vps_definition.specs.Record.{start_of, end_of}
 use Rattle.vps_definition.specs.Writing.{well_formed}
 use Rattle.vps_definition.specs.Lookup.{section_start, section_end, section_of}
-use Rattle.vps_laws.specs.Lookup.{Inside, Found}
+use Rattle.vps_laws.specs.Lookup.{Found}
 use Rattle.vps_laws.proofs.Lookup.{section_inside, found_over, found_ill_formed, found_listed, found_inside}
 
 -- a section as a start and a count: from where it starts to where it ends, inside the record, the section's numbers

@@ -1,7 +1,7 @@
 // Writes a record's end: it is looked through from where the table's numbers end, and the extension and the trailing bits are put out.
 #![tactic(auto)]
 
-ghost use Rattle.std.specs.Prelude.{◌≡◌, List, ◌||◌, ℕ, ◌+◌, ◌-◌, ◌≤◌, ◌<◌, eqb, length, get_or, drop};
+ghost use Rattle.std.specs.Prelude.{◌≡◌, List, ◌||◌, ℕ, ◌+◌, ◌-◌, ◌<◌, length, get_or, drop};
 ghost use Rattle.vps_definition.specs.Syntax.{Token};
 ghost use Rattle.vps_definition.specs.Syntax.Written.{wrote};
 ghost use Rattle.vps_definition.specs.Words.{repeat};

@@ -9,7 +9,7 @@ use Rattle.refusals.specs.Number.{ptls_over_sets, ptl_max_tid, ptl_alignment}
 use Rattle.vps_definition.specs.Syntax.{Syntax, ◌>>=◌, Token, numbers, emit, skim}
 use Rattle.vps_definition.specs.Syntax.Syntax.{late, keep, test, done}
 use Rattle.vps_definition.specs.Syntax.Written.{wrote}
-use Rattle.vps_definition.specs.Words.{u_minus1, inferred, check, aligned, loop}
+use Rattle.vps_definition.specs.Words.{inferred, check, aligned, loop}
 use Rattle.vps_definition.specs.ProfileTierLevel.{profile_tier_level}
 use Rattle.vps_definition.specs.Vps.{Header, Head, head, slot_at, slot_number_if, ptl_head, ptl_slot, ptl_section}
 use Rattle.vps_laws.specs.Inversion.{Writes, emit_writes}

@@ -1,7 +1,7 @@
 // Writes the table of a VPS, section by section, with where each starts in the record.
 #![tactic(auto)]
 
-ghost use Rattle.std.specs.Prelude.{◌≡◌, List, [], ◌∷◌, ℕ};
+ghost use Rattle.std.specs.Prelude.{[], ◌∷◌};
 ghost use Rattle.vps_definition.specs.Vps.{ptl_section, buffer_sections, vps};
 ghost use Rattle.write_steps.specs.Does.{Does};
 ghost use Rattle.write_steps.specs.Marked.{Marked};
