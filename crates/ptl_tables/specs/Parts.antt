@@ -1,6 +1,6 @@
 -- profile_tier_level() in parts, each from one of its fields to its end.
 use Rattle.std.specs.Prelude.{ℕ}
-use Rattle.vps_definition.specs.Syntax.{Syntax}
+use Rattle.vps_definition.specs.Syntax.{Syntax, ◌>>=◌}
 use Rattle.vps_definition.specs.Syntax.Syntax.{field}
 use Rattle.vps_definition.specs.Words.{sum, u, nothing, when, aligned}
 use Rattle.vps_definition.specs.ProfileTierLevel.{reversed, general_constraints_info, sub_profiles}

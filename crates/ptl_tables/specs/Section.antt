@@ -1,7 +1,7 @@
 -- The VPS's PTL section by what it asks of the header: its heads, and the whole.
 use Rattle.std.specs.Prelude.{ℕ, ◌≡◌, List, [], leb, eqb}
 use Rattle.refusals.specs.Number.{ptls_over_sets, ptl_alignment}
-use Rattle.vps_definition.specs.Syntax.{Syntax}
+use Rattle.vps_definition.specs.Syntax.{Syntax, ◌>>=◌}
 use Rattle.vps_definition.specs.Syntax.Syntax.{test, done}
 use Rattle.vps_definition.specs.Words.{u_minus1, inferred, check, aligned, loop}
 use Rattle.vps_definition.specs.Vps.{Header, Head, ptl_head, ptl_slot, ptl_section}

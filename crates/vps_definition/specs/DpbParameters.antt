@@ -1,7 +1,7 @@
 -- dpb_parameters() of H.266 clause 7.3.4, and the buffers of the VPS.
 use Rattle.std.specs.Prelude.{ℕ, ◌+◌, Bool, not, cond, ◌&&◌, ltb, leb, eqb}
 use Rattle.refusals.specs.Number.{dpb_slots, dpb_max_tid, dpb_buffering, dpb_reorder, dpb_depth, dpb_index}
-use Rattle.vps_definition.specs.Syntax.{Syntax}
+use Rattle.vps_definition.specs.Syntax.{Syntax, ◌>>=◌}
 use Rattle.vps_definition.specs.Syntax.Syntax.{done}
 use Rattle.vps_definition.specs.Words.{u, ue, ue_minus1, inferred, u_if, ue_if, general_if, check, nothing, loop, repeat}
 

@@ -1,7 +1,7 @@
 -- Timing and HRD parameters of H.266 clauses 7.3.5.1 to 7.3.5.3, and their section of the VPS.
 use Rattle.std.specs.Prelude.{ℕ, ◌+◌, Bool, ◌&&◌, ◌||◌, ltb, leb, eqb}
 use Rattle.refusals.specs.Number.{timing_zero, schedule_count, timing_entries, timing_max_tid, elemental_duration, timing_index}
-use Rattle.vps_definition.specs.Syntax.{Syntax}
+use Rattle.vps_definition.specs.Syntax.{Syntax, ◌>>=◌}
 use Rattle.vps_definition.specs.Syntax.Syntax.{done}
 use Rattle.vps_definition.specs.Words.{u, ue, ue_minus1, u_if, ue_if, check, nothing, when, loop, repeat}
 use Rattle.vps_definition.specs.DpbParameters.{per_sublayer, index}

@@ -2,7 +2,7 @@
 use Rattle.std.specs.Prelude.{ℕ, zero, suc, ◌+◌, ◌-◌, List, [], ◌∷◌, ◌++◌, Bool, cond, not, ◌&&◌, ◌||◌, ltb, leb, eqb, get_or}
 use Rattle.refusals.specs.Number.{id_zero, sublayers_reserved, layer_ids_not_rising, no_direct_reference, mode_reserved, no_output_layer, ptls_over_sets, ptl_max_tid, ptl_alignment, ptl_index, dpb_slots}
 use Rattle.vps_definition.specs.Rules.{Rules, today}
-use Rattle.vps_definition.specs.Syntax.{Syntax, skim}
+use Rattle.vps_definition.specs.Syntax.{Syntax, ◌>>=◌, skim}
 use Rattle.vps_definition.specs.Syntax.Syntax.{late, keep, mark, test, done}
 use Rattle.vps_definition.specs.Words.{sum, u, u_minus1, inferred, u_if, general, general_if, check, ruled, when, aligned, loop}
 use Rattle.vps_definition.specs.OutputLayerSets.{Sets, total_num_olss, num_multi_layer_olss}

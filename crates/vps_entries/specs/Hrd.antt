@@ -1,7 +1,7 @@
 -- The second half of general_timing_hrd_parameters(), and what the code hands on of it.
 use Rattle.std.specs.Prelude.{ℕ, Bool, leb, eqb}
 use Rattle.refusals.specs.Number.{schedule_count}
-use Rattle.vps_definition.specs.Syntax.{Syntax}
+use Rattle.vps_definition.specs.Syntax.{Syntax, ◌>>=◌}
 use Rattle.vps_definition.specs.Syntax.Syntax.{done}
 use Rattle.vps_definition.specs.Words.{u_if, ue_if, check}
 use Rattle.vps_definition.specs.TimingHrd.{Hrd}

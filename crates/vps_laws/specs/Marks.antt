@@ -1,13 +1,13 @@
 -- Where a record's sections start: each start in the trailer is the place of a mark of the table.
 use Prim.Native.Nat.{ℕ, zero, suc, ◌+◌, ◌-◌, ◌≤◌, ◌<◌}
-use Rattle.std.specs.Prelude.{◌≡◌, refl}
-use Rattle.std.proofs.Common.{sym, ◌∙◌, add-zero, arith, lt-ltb}
+use Rattle.std.specs.Prelude.{◌≡◌, refl, Bool, true, false}
+use Rattle.std.proofs.Common.{sym, ◌∙◌, subst, add-zero, arith, lt-ltb}
 use Rattle.std.proofs.Math.Path.{ap}
 use mathlib.Core.List.{List, [], ◌∷◌, ◌++◌, append_assoc}
 use Rattle.std.proofs.Math.ListN.{length, get_or, drop, length-append, get_or-append}
 use Rattle.std.proofs.lemmas.List.{get_or_at}
 use Rattle.std.proofs.Math.Seq.{get_or-append-add, drop-append-add, drop-append_seam}
-use Rattle.vps_definition.specs.Syntax.{Token, numbers, starts}
+use Rattle.vps_definition.specs.Syntax.{Syntax, ◌>>=◌, Token, numbers, starts}
 use Rattle.vps_definition.specs.Syntax.Token.{number, section}
 use Rattle.vps_definition.specs.Record.{body_of, record_of, trailer_at, start_of}
 use Rattle.vps_definition.specs.Layout.{from_section}

@@ -1,6 +1,6 @@
 -- Fields of one width in a row.
 use Rattle.std.specs.Prelude.{ℕ, List}
-use Rattle.vps_definition.specs.Syntax.{◌>>=◌}
+use Rattle.vps_definition.specs.Syntax.{Syntax, ◌>>=◌}
 use Rattle.vps_definition.specs.Words.{u, nothing}
 use Rattle.ptl_tables.specs.Parts.{kept_field}
 use Rattle.write_steps.specs.declared.Place.{Place}

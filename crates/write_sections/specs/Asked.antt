@@ -1,6 +1,6 @@
 -- What the sections of buffers and timing ask of the header, and their table by that alone.
 use Rattle.std.specs.Prelude.{ℕ, ◌≡◌}
-use Rattle.vps_definition.specs.Syntax.{Syntax}
+use Rattle.vps_definition.specs.Syntax.{Syntax, ◌>>=◌}
 use Rattle.vps_definition.specs.Syntax.Syntax.{mark, done}
 use Rattle.vps_definition.specs.Words.{u, when}
 use Rattle.vps_definition.specs.DpbParameters.{dpb_section}
