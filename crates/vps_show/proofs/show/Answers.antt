@@ -2,7 +2,7 @@
 use native.Mathlib.Omega.{arith}
 use Rattle.texts.specs.Text.{puts_same}
 use Rattle.vps_show.specs.Shown.{shown_short, shown_long}
-use Rattle.vps_show.specs.Room.{shown_whole}
+use Rattle.vps_show.proofs.Room.{shown_whole}
 use Rattle.vps_show.proofs.show.Goals as goal
 
 pub returns-then-input-le-UNIT_BYTES : goal.returns-then-input-le-UNIT_BYTES
