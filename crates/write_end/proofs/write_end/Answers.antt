@@ -51,7 +51,7 @@ returns c start d lent t R T q f =
           λ e.
           record {
             rbsp = rbsp_of d W.bits;
-            is = ends_good T (is_almost c.args.rec.now c.args.general.now t c.args.p.c c.has_end.result (c.has_end.ensures t T q f) (not-false _ (not_from_true _ c.if-not-has_end.false))) d W.is (omega (arith, c.if-sink-ge-MOST_RBSP_BITS.false, W.ready.holds.counted, length-append d W.bits));
+            is = ends_good T (is_almost c.args.rec.now c.args.general.now t c.args.p.c c.has_end.result (c.has_end.ensures t T q f) (not-false _ (not_from_true _ c.if-not-has_end.false))) d W.is (omega (arith, W.ready.holds.counted, length-append d W.bits));
             long = H.0;
             stored = H.1;
           };
