@@ -75,10 +75,9 @@ def parse(path, module):
             current.lines += wait + [l]
             wait = []
         else:
-            name = re.match(NAME, l)
             if current is None or wait:
                 # an equation behind a remark
-                current = next(b for b in reversed(blocks) if True)
+                current = blocks[-1]
                 current.lines += wait
                 wait = []
             current.lines.append(l)
@@ -215,7 +214,6 @@ def main(argv):
         print(f"{crate}: nothing to move")
         return
     taken = {m for m, _ in moved}
-    where = {d: d[0] for d in moved}
     lib = f"crates/{crate}/proofs/Lib.antt"
     os.makedirs(os.path.dirname(lib), exist_ok=True)
     old_lib = open(lib, encoding="utf-8").read() if os.path.exists(lib) else ""
@@ -226,8 +224,6 @@ def main(argv):
             if (m, b.name) in moved:
                 for line in re.findall(r"^\s*unfolding ([^\n]*)", b.bare(), re.M):
                     opened |= {(m, n) for n in line.split()}
-                for n in re.findall(r"rw \(([^()]*)\)", b.bare()):
-                    pass
     # what has to be seen from outside: what the moved ones name, the types of its statements, and a rule set's members
     seen = {d for e in moved for d in edges[e] if d not in moved}
     again = True
@@ -292,7 +288,6 @@ def main(argv):
 
     place = {d: d[0] + ("" if level_of(d) == 0 else "Then" if level_of(d) == 1 else f"Then{level_of(d)}") for d in moved}
     listed = []
-    rank = lambda n: (n in taken and "" or re.sub(r"Then\d*$", "", n), n)
     for m in sorted(taken):
         p, head, uses, blocks, tail = modules[m]
         stay = [b for b in blocks if (m, b.name) not in moved]
