@@ -5,18 +5,23 @@ use mathlib.Core.List.{List, [], ◌∷◌, ◌++◌}
 use mathlib.Core.Bool.{Bool, true, false, cond}
 use native.Mathlib.Nat.{two-pow-succ, zero-div, one-mul}
 use native.Mathlib.Omega.{arith}
-use borrow.Author.Tests.{ltb-true, ltb-false, lt-ltb, le-ltb, le-leb, lt-leb}
+use native.Mathlib.Numerals.{add-one}
+use borrow.Author.Tests.{ltb-true, ltb-false, lt-ltb, le-ltb, le-leb, eqb-true, eqb-false}
 use lib.Count.{count_leading_zeros, leading_of_zero, leading_top}
-use lib.Dec.{ltb, lit<}
-use lib.ListN.{length, replicate, length-replicate}
+use lib.Dec.{leb, ltb, lit<}
+use lib.ListN.{length, get_or, drop, replicate, length-replicate, drop_of_length-le}
+use lib.Seq.{drop-cons}
 use lib.Pow.{high, low, pow_pos, pow_mono, mod-pow-add, shl_exact, shl_lt, shl-shr, shr-shr}
+use Rattle.std.specs.List.{list_any}
+use Rattle.std.proofs.Common.{nat_eq, not}
 use Rattle.refusals.specs.Answer.Answer.{success}
 use Rattle.refusals.specs.Number.{code_too_long}
 use Rattle.bits.specs.Bits.{bit_at, field_at, field_width, ones_from, to_boundary, bits_of}
 use Rattle.bits.specs.Reading.{more_data, ask_more_data}
 use Rattle.bits.specs.Code.{zeros_at, code_behind, code_at}
 use Rattle.bits.specs.Code.Taken.{taken, refused}
-use Rattle.bits.specs.FieldLaws.{bit_lt, one_inside, field_lt, field_one, field_split, field_high, field_low, BitsAt, bits_right, bits_field, bits_of_zero}
+use Rattle.bits.specs.FieldLaws.{bit_lt, one_inside, field_lt, field_one, field_split, field_high, field_low, BitsAt, bits_right, bits_field, bits_of_zero, field_byte}
+use Rattle.bits.specs.OneLaws.{ones_past_end, ones_behind_zeros, ones_in_field}
 use Rattle.bits.specs.CodeLaws.{zeros_to_end, zeros_past_end, zeros_all, code_at_lem}
 
 -- ── Fields ────────────────────────────────────────────────────────────
@@ -180,11 +185,52 @@ pub bit_one : (s : List ℕ) (at : ℕ) → (bit_at s at ≡ 0 → ⊥) → bit_
 bit_one s at n = omega (arith, bit_lt s at)
 
 -- ── More data ─────────────────────────────────────────────────────────
--- by the ones behind the place's bit
-pub more_yes : (s : List ℕ) (at : ℕ) → at < 2 ^ 63 → 1 ≤ ones_from s (at + 1) → success true ≡ ask_more_data s at
-unfolding ask_more_data more_data
-more_yes s at l h = rw (lt-ltb at (2 ^ 63) l, le-leb 1 (ones_from s (at + 1)) h) refl
+-- the bytes from one on have a one where some of them is not 0
+module _ (s : List ℕ) (small : (k : ℕ) → get_or s k 0 < 256) where
+  abbrev OneFrom : ℕ → Type 0
+  OneFrom i = list_any (λ b. not (nat_eq b 0)) (drop i s) ≡ leb 1 (ones_from s (8 * i))
 
-pub more_no : (s : List ℕ) (at : ℕ) → at < 2 ^ 63 → ones_from s (at + 1) ≡ 0 → success false ≡ ask_more_data s at
-unfolding ask_more_data more_data
-more_no s at l h = rw (lt-ltb at (2 ^ 63) l, lt-leb 1 (ones_from s (at + 1)) (omega arith)) refl
+  none_from : (i : ℕ) → length s ≤ i → OneFrom i
+  none_from i h = rw (drop_of_length-le s h, ones_past_end s (8 * i) (omega arith)) refl
+
+  byte_from : (i : ℕ) → i < length s → OneFrom (i + 1) → (t : Bool) → nat_eq (get_or s i 0) 0 ≡ t → OneFrom i
+  byte_from i h next true e =
+      let b : field_at s (8 * i) 8 ≡ 0 = field_byte s i (small i) ∙ eqb-true (get_or s i 0) 0 e in
+      let n : 8 * i + 8 ≡ 8 * (i + 1) = omega arith in
+      let q : drop i s ≡ get_or s i 0 ∷ drop (i + 1) s = drop-cons s i 0 h ∙ rw (add-one i) refl in
+      rw (q, e, ones_behind_zeros s (8 * i) 8 b, n) next
+  byte_from i h next false e =
+      let b : 0 < field_at s (8 * i) 8 = rw (field_byte s i (small i)) (omega (arith, eqb-false (get_or s i 0) 0 e)) in
+      rw (drop-cons s i 0 h, e, le-leb 1 (ones_from s (8 * i)) (ones_in_field s (8 * i) 8 b)) refl
+
+  ones_up_to : (n i : ℕ) → length s ≤ i + n → OneFrom i
+  ones_up_to zero i h = none_from i (omega arith)
+  ones_up_to (suc n) i h = go (ltb i (length s)) refl (ones_up_to n (i + 1) (omega arith))
+    where
+      go : (t : Bool) → ltb i (length s) ≡ t → OneFrom (i + 1) → OneFrom i
+      go true e next = byte_from i (ltb-true i (length s) e) next (nat_eq (get_or s i 0) 0) refl
+      go false e next = none_from i (ltb-false i (length s) e)
+
+  pub any_one : (i : ℕ) → OneFrom i
+  any_one i = ones_up_to (length s) i (omega arith)
+
+-- the rest of the place's own byte, and the bytes behind it
+module _ (s : List ℕ) (at : ℕ) where
+  abbrev rest : ℕ
+  rest = field_at s (at + 1) (field_width (7 - at % 8))
+
+  rest_is : rest ≡ field_at s (at + 1) (7 - at % 8)
+  rest_is = ap (field_at s (at + 1)) (width_is (7 - at % 8) (omega arith))
+
+  pub more_here : (rest ≡ 0 → ⊥) → true ≡ more_data s at
+  unfolding more_data
+  more_here n =
+      let f : field_at s (at + 1) (7 - at % 8) ≡ 0 → ⊥ = λ e. n (rest_is ∙ e) in
+      rw (le-leb 1 (ones_from s (at + 1)) (ones_in_field s (at + 1) (7 - at % 8) (omega (arith, f)))) refl
+
+  pub more_behind : rest ≡ 0 → ((k : ℕ) → get_or s k 0 < 256) → list_any (λ b. not (nat_eq b 0)) (drop (at / 8 + 1) s) ≡ more_data s at
+  unfolding more_data
+  more_behind z small =
+      let q : at + 1 + (7 - at % 8) ≡ 8 * (at / 8 + 1) = omega arith in
+      let o : ones_from s (at + 1) ≡ ones_from s (8 * (at / 8 + 1)) = ones_behind_zeros s (at + 1) (7 - at % 8) (sym rest_is ∙ z) ∙ ap (ones_from s) q in
+      rw o (any_one s small (at / 8 + 1))

@@ -50,8 +50,8 @@ pub record Storing (z₀ n₀ : ℕ) (out₀ : List ℕ) (v w left z n : ℕ) (o
   pub below : left ≤ w
   pub halfway : n₀ < 2 ^ 61 → Halfway z₀ n₀ out₀ v w left z n out
 
-pub storing_start : (z n v w : ℕ) (out : List ℕ) → Storing z n out v w w z n out
-storing_start z n v w out = record { same = refl; below = omega arith; halfway = λ l. record { done = []; whole = refl; near = omega arith; stored = stuffed_none z n out } }
+pub storing_start : (z n v w : ℕ) (out : List ℕ) {left : ℕ} → left ≡ w → Storing z n out v w left z n out
+storing_start z n v w out e = rw e (record { same = refl; below = omega arith; halfway = λ l. record { done = []; whole = refl; near = omega arith; stored = stuffed_none z n out } })
 
 byte_short : (z b : ℕ) → length (stuffing_so_far z (b ∷ [])) ≤ 2
 unfolding stuffing_so_far
@@ -61,19 +61,22 @@ byte_short z b = go (guarded z b) where
   go false = omega arith
 
 module _ {z₀ n₀ v w left z n : ℕ} {out₀ out : List ℕ} (l : Storing z₀ n₀ out₀ v w left z n out) where
-  pub storing_step : {z' n' : ℕ} {out' : List ℕ} → w ≤ 64 → 8 ≤ left → length out' ≡ length out
-      → (n < 2 ^ 62 → Stuffed z n out (v / 2 ^ (left - 8) % 256 ∷ []) z' n' out') → Storing z₀ n₀ out₀ v w (left - 8) z' n' out'
-  storing_step {z'} {n'} {out'} few some same stored = record { same = same ∙ l.same; below = omega (arith, l.below); halfway = step } where
+  pub storing_step : {left' z' n' : ℕ} {out' : List ℕ} → w ≤ 64 → left ≡ left' + 8 → length out' ≡ length out
+      → (n < 2 ^ 62 → Stuffed z n out (v / 2 ^ left' % 256 ∷ []) z' n' out') → Storing z₀ n₀ out₀ v w left' z' n' out'
+  storing_step {left'} {z'} {n'} {out'} few some same stored = record { same = same ∙ l.same; below = omega (arith, l.below); halfway = step } where
     byte : ℕ
-    byte = v / 2 ^ (left - 8) % 256
+    byte = v / 2 ^ left' % 256
 
-    step : n₀ < 2 ^ 61 → Halfway z₀ n₀ out₀ v w (left - 8) z' n' out'
+    first : pack (bits_of left v) ≡ byte ∷ pack (bits_of left' v)
+    first = let e : left' ≡ left - 8 = omega arith in rw e (pack_first left v (omega arith))
+
+    step : n₀ < 2 ^ 61 → Halfway z₀ n₀ out₀ v w left' z' n' out'
     step h =
         let H = l.halfway h in
         let S : Stuffed z n out (byte ∷ []) z' n' out' = stored (omega (arith, H.near)) in
         record {
           done = H.done ++ (byte ∷ []);
-          whole = append_assoc H.done (byte ∷ []) (pack (bits_of (left - 8) v)) ∙ ap (λ (x : List ℕ). H.done ++ x) (sym (pack_first left v some)) ∙ H.whole;
+          whole = append_assoc H.done (byte ∷ []) (pack (bits_of left' v)) ∙ ap (λ (x : List ℕ). H.done ++ x) (sym first) ∙ H.whole;
           near = omega (arith, H.near, S.long, byte_short z byte);
           stored = stuffed_then H.stored S;
         }

@@ -49,42 +49,52 @@ struct End {
     len: usize,
 }
 
-// Stores a byte, with a 03 before it where it needs one.
-fn store_byte(out: &mut [u8], end: End, b: u8) -> End
-    ensures { end.len < 2 ^ 62 → Stuffed end.zeros end.len out.old (b ∷ []) result.zeros result.len out.new }
-{
-    if end.len >= Sink::LIMIT {
-        return end;
+impl End {
+    // Stores a byte, with a 03 before it where it needs one.
+    fn store_byte(&mut self, out: &mut [u8], b: u8)
+        ensures { self.old.len < 2 ^ 62 → Stuffed self.old.zeros self.old.len out.old (b ∷ []) self.new.zeros self.new.len out.new }
+    {
+        if self.len >= Sink::LIMIT {
+            return;
+        }
+        if is_guarded(self.zeros, b) {
+            store(out, self.len, 3);
+            store(out, self.len + 1, b);
+            self.zeros = zeros_behind(0, b);
+            self.len += 2;
+            return;
+        }
+        store(out, self.len, b);
+        self.zeros = zeros_behind(self.zeros, b);
+        self.len += 1;
     }
-    if is_guarded(end.zeros, b) {
-        store(out, end.len, 3);
-        store(out, end.len + 1, b);
-        return End {
-            zeros: zeros_behind(0, b),
-            len: end.len + 2,
-        };
-    }
-    store(out, end.len, b);
-    End {
-        zeros: zeros_behind(end.zeros, b),
-        len: end.len + 1,
-    }
-}
 
-// Stores the whole bytes of the n lowest bits of a number, the highest first.
-fn store_bytes(out: &mut [u8], first: End, v: u64, n: u32) -> End
-    ensures { n ≤ 64 → first.len < 2 ^ 61 → Stuffed first.zeros first.len out.old (pack (bits_of n v)) result.zeros result.len out.new }
-{
-    if n > 64 {
-        return first;
+    // Stores the whole bytes of the n lowest bits of a number, the highest first.
+    fn store_bytes(&mut self, out: &mut [u8], v: u64, n: u32)
+        ensures { n ≤ 64 → self.old.len < 2 ^ 61 → Stuffed self.old.zeros self.old.len out.old (pack (bits_of n v)) self.new.zeros self.new.len out.new }
+    {
+        if n > 64 {
+            return;
+        }
+        for i in 0..n / 8 {
+            self.store_byte(out, ((v >> (n - 8 * (i + 1))) % 256) as u8);
+        }
     }
-    let mut left = n;
-    let mut end = first;
-    while left >= 8 {
-        left -= 8;
-        end = store_byte(out, end, ((v >> left) % 256) as u8);
+
+    // The end of the bytes: a 03 behind two zeros. Says how far the output is used.
+    fn store_end(self, out: &mut [u8]) -> usize
+        ensures { self.len < 2 ^ 62 → (result ≡ self.len + length (stuff_behind self.zeros [])) × (out.new ≡ sets out.old self.len (stuff_behind self.zeros [])) }
+    {
+        if self.len >= Sink::LIMIT {
+            return self.len;
+        }
+        if self.zeros >= 2 {
+            store(out, self.len, 3);
+            self.len + 1
+        } else {
+            self.len
+        }
     }
-    end
 }
 
 // A width, 32 at the most.
@@ -124,15 +134,11 @@ fn push(out: &mut [u8], s: Sink, value: u32, width: u32) -> Sink
     let w = capped(width);
     let v = joined(s.pending, value, w);
     let n = (s.bits % 8) as u32 + w;
-    let end = store_bytes(
-        out,
-        End {
-            zeros: s.zeros,
-            len: s.len,
-        },
-        v,
-        n,
-    );
+    let mut end = End {
+        zeros: s.zeros,
+        len: s.len,
+    };
+    end.store_bytes(out, v, n);
     Sink {
         bits: s.bits + w as usize,
         pending: low_bits(v, n % 8) as u32,
@@ -178,32 +184,15 @@ pub fn put_zeros_to_boundary(out: &mut [u8], s: Sink) -> Sink
     push(out, s, 0, to_boundary(s.bits))
 }
 
-// The end of the bytes: a 03 behind two zeros. Says how far the output is used.
-fn store_end(out: &mut [u8], end: End) -> usize
-    ensures { end.len < 2 ^ 62 → (result ≡ end.len + length (stuff_behind end.zeros [])) × (out.new ≡ sets out.old end.len (stuff_behind end.zeros [])) }
-{
-    if end.len >= Sink::LIMIT {
-        return end.len;
-    }
-    if end.zeros >= 2 {
-        store(out, end.len, 3);
-        end.len + 1
-    } else {
-        end.len
-    }
-}
-
 // The stop bit, zeros to the boundary, and the end of the stuffing. Says how far the output is used, or would be with room.
 pub fn finish(out: &mut [u8], s: Sink) -> usize
     ensures { (start : ℕ) (b lent : List ℕ) → Holds start b s lent out.old → start < limit → length b < limit → (result ≡ start + length (stuff (pack (b ++ trailing_bits (length b))))) × (out.new ≡ sets lent start (stuff (pack (b ++ trailing_bits (length b))))) }
 {
     let stopped = push(out, s, 1, 1);
     let aligned = push(out, stopped, 0, to_boundary(stopped.bits));
-    store_end(
-        out,
-        End {
-            zeros: aligned.zeros,
-            len: aligned.len,
-        },
-    )
+    let end = End {
+        zeros: aligned.zeros,
+        len: aligned.len,
+    };
+    end.store_end(out)
 }

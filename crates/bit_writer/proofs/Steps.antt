@@ -10,13 +10,16 @@ use borrow.Author.Tests.{le-leb, lt-leb, ne_eqb}
 use lib.Dec.{leb, eqb, lit<}
 use lib.ListN.{length}
 use lib.Pow.{pow_pos, shl_exact, shl-shr}
-use Rattle.refusals.specs.Number.{not_well_formed, output_too_short}
+use Rattle.std.proofs.Common.{Result, Ok, Err, lt-ltb, le-ltb, ◌&&◌}
+use Rattle.std.proofs.Math.Bool.{and-false}
+use Rattle.refusals.specs.declared.refusal.Refusal.{Refusal}
+use Rattle.refusals.specs.declared.refusal.Refusal.TheVariants.{NotWellFormed, OutputTooShort}
+use Rattle.bits.specs.Reading.{place_good}
 use Rattle.bits.specs.Bits.{weight, to_boundary, bits_of, with_bit, set_bit, set_bits}
 use Rattle.bits.specs.Writing.{write_bits, buffer_after, trailing_bits}
 use Rattle.bits.specs.FieldLaws.{bits_length, bits_first, bits_over, bits_of_zero}
 use Rattle.bits.specs.WriteLaws.{each_weight, length_set_bit}
-use Rattle.bit_writer.specs.declared.Wrote.{Wrote}
-use Rattle.bit_writer.specs.declared.Wrote.TheVariants.{To, Refused}
+use Rattle.bit_writer.specs.declared.BitWriter.{BitWriter}
 use Rattle.bit_writer.specs.Answers.{Writes}
 
 -- ── A byte with another bit ───────────────────────────────────────────
@@ -44,22 +47,23 @@ pub record Halfway (out₀ : List ℕ) (at v width : ℕ) (out : List ℕ) (left
   pub long : length out ≡ length out₀
   pub whole : set_bits out p (bits_of left v) ≡ set_bits out₀ at (bits_of width v)
 
-pub field_start : (out : List ℕ) (at v width : ℕ) → Halfway out at v width out width at
-field_start out at v width = record { below = omega arith; place = refl; long = refl; whole = refl }
+pub field_start : (out : List ℕ) (at v width : ℕ) {left p : ℕ} → left ≡ width → p ≡ at → Halfway out at v width out left p
+field_start out at v width e f = rw (e, f) (record { below = omega arith; place = refl; long = refl; whole = refl })
 
 first_bit : (w v : ℕ) → 0 < w → bits_of w v ≡ v / 2 ^ (w - 1) % 2 ∷ bits_of (w - 1) v
 first_bit w v h =
     let e : w ≡ suc (w - 1) = omega arith in
     subst (λ (n : ℕ). bits_of n v ≡ v / 2 ^ (w - 1) % 2 ∷ bits_of (w - 1) v) (sym e) (bits_first (w - 1) v)
 
-pub field_step : {out₀ out out' : List ℕ} {at v width left p : ℕ} → Halfway out₀ at v width out left p → 0 < left → out' ≡ set_bit out p (v / 2 ^ (left - 1) % 2) → Halfway out₀ at v width out' (left - 1) (p + 1)
+pub field_step : {out₀ out out' : List ℕ} {at v width left p left' p' : ℕ} → Halfway out₀ at v width out left p → 0 < left → out' ≡ set_bit out p (v / 2 ^ (left - 1) % 2)
+    → left' ≡ left - 1 → p' ≡ p + 1 → Halfway out₀ at v width out' left' p'
 unfolding set_bits
-field_step {out₀} {out} {out'} {at} {v} {width} {left} {p} l h e = record {
+field_step {out₀} {out} {out'} {at} {v} {width} {left} {p} l h e f g = rw (f, g) (record {
   below = omega arith;
   place = omega arith;
   long = ap length e ∙ length_set_bit out p (v / 2 ^ (left - 1) % 2) ∙ l.long;
   whole = rw e (rw (first_bit left v h) at l.whole);
-}
+})
 
 pub field_done : {out₀ out : List ℕ} {at v width left p : ℕ} → Halfway out₀ at v width out left p → left ≤ 0 → out ≡ set_bits out₀ at (bits_of width v)
 unfolding set_bits bits_of
@@ -83,34 +87,49 @@ trailing_is_field at =
     sym (rw (s, add-one z, bits_first z (1 * 2 ^ z), shl-shr 1 z, o, bits_over z 0, bits_of_zero z, n) refl)
 
 -- ── The answer of a step ──────────────────────────────────────────────
-module _ {good : Bool} {at : ℕ} {b out : List ℕ} where
-  -- numbers out of range: the refusal, and the buffer as it was
-  pub out_of_range : good ≡ false → Writes good at b out (Refused not_well_formed) out
+-- the refusal that `?` hands on is the one that came
+pub handed_on : {T : Type 0} {x : Result T Refusal} {e e' : Refusal} → (y : Refusal) × (x ≡ Err y) × (y ≡ e) → e ≡ e' → x ≡ Err e'
+handed_on p q = p.1 ∙ ap Err (p.2 ∙ q)
+
+-- a place below the limit, and one from there on, whatever the other numbers
+pub near : {at : ℕ} → at < 2 ^ 63 → place_good at ≡ true
+near {at} h = lt-ltb at (2 ^ 63) h
+
+pub far : {at : ℕ} → 2 ^ 63 ≤ at → place_good at ≡ false
+far {at} h = le-ltb at (2 ^ 63) h
+
+pub far_too : (t : Bool) {at : ℕ} → 2 ^ 63 ≤ at → (t && place_good at) ≡ false
+far_too t h = rw (far h) (and-false t)
+
+module _ {good : Bool} {b : List ℕ} (w : BitWriter) where
+  -- numbers out of range: the refusal, and all as it was
+  pub out_of_range : {x : Result (Unit {0}) Refusal} → good ≡ false → x ≡ Err NotWellFormed → Writes good b w x w
   unfolding write_bits buffer_after
-  out_of_range e = subst (λ (g : Bool). Writes g at b out (Refused not_well_formed) out) (sym e) (record { answered = refl; left = refl })
+  out_of_range e f = rw (e, f) (record { said = refl; stands = refl; left = refl; same_output = refl })
 
   -- numbers in range: what the writing of the same bits gives
-  pub in_range : {b' after : List ℕ} {r : Wrote} → good ≡ true → b ≡ b' → Writes true at b' out r after → Writes good at b out r after
-  in_range {b'} {after} {r} e f h = subst (λ (g : Bool). Writes g at b out r after) (sym e) (subst (λ (x : List ℕ). Writes true at x out r after) (sym f) h)
+  pub in_range : {b' : List ℕ} {r : Result (Unit {0}) Refusal} {w' : BitWriter} → good ≡ true → b ≡ b' → Writes true b' w r w' → Writes good b w r w'
+  in_range e f h = rw (e, f) h
 
-module _ (at v w : ℕ) (out : List ℕ) where
+module _ (w : BitWriter) (v n : ℕ) where
   -- no bits: no room is asked, and nothing changes
-  pub no_bits : w ≡ 0 → Writes true at (bits_of w v) out (To (record { bit_pos = at })) out
+  pub no_bits : n ≡ 0 → Writes true (bits_of n v) w (Ok tt) w
   unfolding write_bits buffer_after set_bits bits_of
-  no_bits e = rw e (record { answered = rw add-zero refl; left = refl })
+  no_bits e = rw e (record { said = rw add-zero refl; stands = rw add-zero refl; left = refl; same_output = refl })
 
-  module _ (some : 0 < w) where
-    none_zero : eqb w 0 ≡ false
-    none_zero = ne_eqb w 0 (λ e. omega arith)
+  module _ (some : 0 < n) where
+    none_zero : eqb n 0 ≡ false
+    none_zero = ne_eqb n 0 (λ e. omega arith)
 
-    pub with_room : {after : List ℕ} → at + w ≤ 8 * length out → after ≡ set_bits out at (bits_of w v) → Writes true at (bits_of w v) out (To (record { bit_pos = at + w })) after
+    pub with_room : {w' : BitWriter} → w.bit_pos + n ≤ 8 * length w.out.now → w'.out.now ≡ set_bits w.out.now w.bit_pos (bits_of n v) → w'.bit_pos ≡ w.bit_pos + n → w'.out.ghost_name ≡ w.out.ghost_name
+        → Writes true (bits_of n v) w (Ok tt) w'
     unfolding write_bits buffer_after
-    with_room l e =
-        let r : leb (at + w) (8 * length out) ≡ true = le-leb (at + w) (8 * length out) l in
-        record { answered = rw (bits_length w v, none_zero, r) refl; left = rw (bits_length w v, none_zero, r) e }
+    with_room l e f g =
+        let r : leb (w.bit_pos + n) (8 * length w.out.now) ≡ true = le-leb (w.bit_pos + n) (8 * length w.out.now) l in
+        record { said = rw (bits_length n v, none_zero, r, f) refl; stands = rw (bits_length n v, none_zero, r) f; left = rw (bits_length n v, none_zero, r) e; same_output = g }
 
-    pub without_room : 8 * length out < at + w → Writes true at (bits_of w v) out (Refused output_too_short) out
+    pub without_room : 8 * length w.out.now < w.bit_pos + n → Writes true (bits_of n v) w (Err OutputTooShort) w
     unfolding write_bits buffer_after
     without_room l =
-        let r : leb (at + w) (8 * length out) ≡ false = lt-leb (at + w) (8 * length out) l in
-        record { answered = rw (bits_length w v, none_zero, r) refl; left = rw (bits_length w v, none_zero, r) refl }
+        let r : leb (w.bit_pos + n) (8 * length w.out.now) ≡ false = lt-leb (w.bit_pos + n) (8 * length w.out.now) l in
+        record { said = rw (bits_length n v, none_zero, r) refl; stands = rw (bits_length n v, none_zero, r) refl; left = rw (bits_length n v, none_zero, r) refl; same_output = refl }

@@ -1,16 +1,30 @@
--- The number and the place of each answer of the bit writer.
-use Rattle.std.specs.Prelude.{ℕ, Bool, List, ◌≡◌}
+-- What each step of the bit writer says, where the writer stands then, and what its output holds: a refusal leaves both as they were.
+use Rattle.std.specs.Prelude.{ℕ, Bool, List, ◌≡◌, ◌<◌, ◌≤◌, ◌^◌, Result, Ok, Err, MatchResult}
 use Rattle.refusals.specs.Answer.{Answer}
 use Rattle.refusals.specs.Answer.Answer.{success, refusal}
+use Rattle.refusals.specs.Refusals.{number_of}
+use Rattle.refusals.specs.declared.refusal.Refusal.{Refusal}
+use Rattle.refusals.specs.declared.refusal.Refusal.TheVariants.{NotWellFormed}
 use Rattle.bits.specs.Writing.{write_bits, buffer_after}
-use Rattle.bit_writer.specs.declared.Wrote.{Wrote}
-use Rattle.bit_writer.specs.declared.Wrote.TheVariants.{To, Refused}
+use Rattle.bit_writer.specs.declared.BitWriter.{BitWriter}
 
-abbrev pub wrote_answer : Wrote → Answer ℕ
-wrote_answer (To p) = success p.bit_pos
-wrote_answer (Refused n) = refusal n
+-- the place itself, or a refusal from 2^63 on
+abbrev pub IsPlace : ℕ → Result ℕ Refusal → Type 0
+IsPlace at r = MatchResult r (λ p. (p ≡ at) × (at < 2 ^ 63)) (λ e. (e ≡ NotWellFormed) × (2 ^ 63 ≤ at))
 
--- a step that writes the bits b at a place, where `good` says that its numbers are in range: what it says, and what the buffer holds then
-pub record Writes (good : Bool) (at : ℕ) (b out : List ℕ) (r : Wrote) (after : List ℕ) : Type 0 where
-  pub answered : wrote_answer r ≡ write_bits good out at b
-  pub left : after ≡ buffer_after good out at b
+-- a step, and the place where the writer stands then
+abbrev pub wrote_answer : Result (Unit {0}) Refusal → ℕ → Answer ℕ
+wrote_answer (Ok u) next = success next
+wrote_answer (Err e) next = refusal (number_of e)
+
+-- behind what was written; a refusal leaves the place as it was
+abbrev pub step_place : Answer ℕ → ℕ → ℕ
+step_place (success p) at = p
+step_place (refusal n) at = at
+
+-- a step that writes the bits b, where `good` says that its numbers are in range: what it says, the place and the output then; the output is the one that was lent
+pub record Writes (good : Bool) (b : List ℕ) (before : BitWriter) (r : Result (Unit {0}) Refusal) (after : BitWriter) : Type 0 where
+  pub said : wrote_answer r after.bit_pos ≡ write_bits good before.out.now before.bit_pos b
+  pub stands : after.bit_pos ≡ step_place (write_bits good before.out.now before.bit_pos b) before.bit_pos
+  pub left : after.out.now ≡ buffer_after good before.out.now before.bit_pos b
+  pub same_output : after.out.ghost_name ≡ before.out.ghost_name

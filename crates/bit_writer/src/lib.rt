@@ -1,4 +1,4 @@
-// Writes bits, fields and codes into a lent byte slice at a place that goes in and comes back by value.
+// Writes bits, fields and codes into a lent output: a writer holds the output and a place among its bits, and each step moves it.
 #![tactic(auto)]
 
 ghost use Rattle.std.specs.Prelude.{◌≡◌, true, ◌+◌, ◌*◌, ◌^◌, ◌<◌, ◌≤◌, length};
@@ -6,29 +6,9 @@ ghost use Rattle.bits.specs.Bits.{weight, with_bit, set_bit, set_bits, bits_of};
 ghost use Rattle.bits.specs.Code.{code_of};
 ghost use Rattle.bits.specs.Reading.{place_good};
 ghost use Rattle.bits.specs.Writing.{field_good, code_good, alignment_bits, trailing_bits};
-ghost use Rattle.bit_writer.specs.Answers.{Writes};
+ghost use Rattle.bit_writer.specs.Answers.{IsPlace, Writes};
 
-use refusals::{NOT_WELL_FORMED, OUTPUT_TOO_SHORT};
-
-// A place among the bits of a lent buffer, counted from its first.
-#[derive(Clone, Copy)]
-pub struct WritePlace {
-    pub bit_pos: usize,
-}
-
-// What a step of the writer says. A refusal leaves place and buffer as they were.
-#[derive(Clone, Copy)]
-pub enum Wrote {
-    // the place behind what was written
-    To(WritePlace),
-    Refused(u32),
-}
-
-fn wide(b: u8) -> u32
-    ensures { (result ≡ b) × (result < 256) }
-{
-    b as u32
-}
+use refusals::Refusal;
 
 fn weight_at(at: usize) -> u32
     ensures { result ≡ weight at }
@@ -42,7 +22,7 @@ fn with_bit(byte: u8, at: usize, bit: u32) -> u8
     ensures { result ≡ with_bit byte (weight at) bit }
 {
     let m = weight_at(at);
-    let x = wide(byte);
+    let x = byte as u32;
     (x - x / m % 2 * m + bit * m) as u8
 }
 
@@ -54,108 +34,123 @@ fn put_bit(out: &mut [u8], at: usize, bit: u32)
     out[i] = with_bit(out[i], at, bit);
 }
 
-// The bits of a value where there is room for them.
+// The bits of a value where there is room for them, the highest first.
 fn put_field(out: &mut [u8], at: usize, value: u64, width: u32)
     requires { (at < 2 ^ 63) × (width ≤ 64) × (at + width ≤ 8 * length out.old) }
     ensures { out.new ≡ set_bits out.old at (bits_of width value) }
 {
-    let mut left = width;
-    let mut p = at;
-    while left > 0 {
-        left -= 1;
-        put_bit(out, p, ((value >> left) % 2) as u32);
-        p += 1;
+    for i in 0..width {
+        let bit = (value >> (width - 1 - i)) % 2;
+        put_bit(out, at + i as usize, bit as u32);
     }
 }
 
-// The bits of a value, refused without room for them.
-fn put_where_room(out: &mut [u8], at: usize, value: u64, width: u32) -> Wrote
-    requires { (at < 2 ^ 63) × (width ≤ 64) }
-    ensures { Writes true at (bits_of width value) out.old result out.new }
-{
-    if width == 0 {
-        return Wrote::To(WritePlace { bit_pos: at });
-    }
-    let next = at + width as usize;
-    if (next + 7) / 8 <= out.len() {
-        put_field(out, at, value, width);
-        Wrote::To(WritePlace { bit_pos: next })
-    } else {
-        Wrote::Refused(OUTPUT_TOO_SHORT)
-    }
+// A lent output, and a place among its bits, counted from its first. A refused step leaves both as they were.
+#[derive(Drop)]
+pub struct BitWriter<'a> {
+    pub out: &'a mut [u8],
+    pub bit_pos: usize,
 }
 
-impl WritePlace {
+impl<'a> BitWriter<'a> {
     // Places from here on are refused.
     const LIMIT: usize = 0x8000_0000_0000_0000;
 
-    // The first place.
-    pub fn new() -> Self
-        ensures { result.bit_pos ≡ 0 }
+    // A writer at the first bit.
+    pub fn new(out: &'a mut [u8]) -> BitWriter<'a>
+        ensures same_output { result.out.ghost_name ≡ out.entry.ghost_name }
+        ensures unchanged { result.out.now ≡ out.old }
+        ensures place { result.bit_pos ≡ 0 }
     {
-        Self { bit_pos: 0 }
+        BitWriter { out, bit_pos: 0 }
+    }
+
+    // A writer at a place.
+    pub fn at(out: &'a mut [u8], bit_pos: usize) -> BitWriter<'a>
+        ensures same_output { result.out.ghost_name ≡ out.entry.ghost_name }
+        ensures unchanged { result.out.now ≡ out.old }
+        ensures place { result.bit_pos ≡ bit_pos }
+    {
+        BitWriter { out, bit_pos }
+    }
+
+    // The place, where it is below the limit.
+    fn place(&self) -> Result<usize, Refusal>
+        ensures { IsPlace self.now.bit_pos result }
+    {
+        if self.bit_pos < BitWriter::LIMIT {
+            Ok(self.bit_pos)
+        } else {
+            Err(Refusal::NotWellFormed)
+        }
+    }
+
+    // The bits of a value, refused without room for them.
+    fn put(&mut self, value: u64, width: u32) -> Result<(), Refusal>
+        requires { (self.old.bit_pos < 2 ^ 63) × (width ≤ 64) }
+        ensures { Writes true (bits_of width value) self.old result self.new }
+    {
+        if width == 0 {
+            return Ok(());
+        }
+        let at = self.bit_pos;
+        let next = at + width as usize;
+        if (next + 7) / 8 > self.out.len() {
+            return Err(Refusal::OutputTooShort);
+        }
+        put_field(self.out, at, value, width);
+        self.bit_pos = next;
+        Ok(())
     }
 
     // One bit, 0 or 1.
-    pub fn write_bit(self, out: &mut [u8], bit: u32) -> Wrote
-        ensures { Writes (field_good self.bit_pos bit 1) self.bit_pos (bits_of 1 bit) out.old result out.new }
+    pub fn write_bit(&mut self, bit: u32) -> Result<(), Refusal>
+        ensures { Writes (field_good self.old.bit_pos bit 1) (bits_of 1 bit) self.old result self.new }
     {
-        self.write_bits(out, bit, 1)
+        self.write_bits(bit, 1)
     }
 
     // A field of a width up to 32.
-    pub fn write_bits(self, out: &mut [u8], value: u32, width: u32) -> Wrote
-        ensures { Writes (field_good self.bit_pos value width) self.bit_pos (bits_of width value) out.old result out.new }
+    pub fn write_bits(&mut self, value: u32, width: u32) -> Result<(), Refusal>
+        ensures { Writes (field_good self.old.bit_pos value width) (bits_of width value) self.old result self.new }
     {
-        let at = self.bit_pos;
+        self.place()?;
         if width > 32 {
-            return Wrote::Refused(NOT_WELL_FORMED);
+            return Err(Refusal::NotWellFormed);
         }
         if ((value as u64) >> width) > 0 {
-            return Wrote::Refused(NOT_WELL_FORMED);
+            return Err(Refusal::NotWellFormed);
         }
-        if at >= WritePlace::LIMIT {
-            return Wrote::Refused(NOT_WELL_FORMED);
-        }
-        put_where_room(out, at, value as u64, width)
+        self.put(value as u64, width)
     }
 
     // A code; its prefix has one zero less than the code number has bits.
-    pub fn write_ue(self, out: &mut [u8], value: u32) -> Wrote
-        ensures { Writes (code_good self.bit_pos value) self.bit_pos (code_of value) out.old result out.new }
+    pub fn write_ue(&mut self, value: u32) -> Result<(), Refusal>
+        ensures { Writes (code_good self.old.bit_pos value) (code_of value) self.old result self.new }
     {
-        let at = self.bit_pos;
+        self.place()?;
         if value >= 0xffff_ffff {
-            return Wrote::Refused(NOT_WELL_FORMED);
-        }
-        if at >= WritePlace::LIMIT {
-            return Wrote::Refused(NOT_WELL_FORMED);
+            return Err(Refusal::NotWellFormed);
         }
         let code_num = value + 1;
         let zeros = 31 - u32::leading_zeros(code_num);
-        put_where_room(out, at, code_num as u64, 2 * zeros + 1)
+        self.put(code_num as u64, 2 * zeros + 1)
     }
 
     // Zeros to the byte boundary.
-    pub fn align_to_byte(self, out: &mut [u8]) -> Wrote
-        ensures { Writes (place_good self.bit_pos) self.bit_pos (alignment_bits self.bit_pos) out.old result out.new }
+    pub fn align_to_byte(&mut self) -> Result<(), Refusal>
+        ensures { Writes (place_good self.old.bit_pos) (alignment_bits self.old.bit_pos) self.old result self.new }
     {
-        let at = self.bit_pos;
-        if at >= WritePlace::LIMIT {
-            return Wrote::Refused(NOT_WELL_FORMED);
-        }
-        put_where_room(out, at, 0, ((8 - at % 8) % 8) as u32)
+        let at = self.place()?;
+        self.put(0, ((8 - at % 8) % 8) as u32)
     }
 
     // The stop bit and zeros to the byte boundary.
-    pub fn write_rbsp_trailing_bits(self, out: &mut [u8]) -> Wrote
-        ensures { Writes (place_good self.bit_pos) self.bit_pos (trailing_bits self.bit_pos) out.old result out.new }
+    pub fn write_rbsp_trailing_bits(&mut self) -> Result<(), Refusal>
+        ensures { Writes (place_good self.old.bit_pos) (trailing_bits self.old.bit_pos) self.old result self.new }
     {
-        let at = self.bit_pos;
-        if at >= WritePlace::LIMIT {
-            return Wrote::Refused(NOT_WELL_FORMED);
-        }
+        let at = self.place()?;
         let zeros = (7 - at % 8) as u32;
-        put_where_room(out, at, 1u64 << zeros, zeros + 1)
+        self.put(1u64 << zeros, zeros + 1)
     }
 }

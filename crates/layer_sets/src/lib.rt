@@ -12,10 +12,7 @@ use record_parts::Record;
 fn has(mask: u64, j: usize) -> bool
     ensures { result ≡ bit_of mask j }
 {
-    if j < Record::MOST_LAYERS {
-        return (mask >> j) % 2 == 1;
-    }
-    false
+    j < Record::MOST_LAYERS && (mask >> j) % 2 == 1
 }
 
 // The mask with layer j, where it is below 64.
@@ -49,14 +46,14 @@ fn union(a: u64, b: u64) -> u64
 pub fn is_multi(mask: u64) -> bool
     ensures { result ≡ ltb 1 (count_below 64 (bit_of mask)) }
 {
-    u64::count_ones(mask) > 1
+    mask.count_ones() > 1
 }
 
 // The mask at k; none past the end.
 fn mask_at(masks: &[u64], k: usize) -> u64
     ensures { result ≡ get_or masks.now k 0 }
 {
-    if k < masks.len() { masks[k] } else { 0 }
+    masks.get(k).copied().unwrap_or(0)
 }
 
 // The layers of the mask, and what those below n reach by their closed masks.
@@ -64,12 +61,10 @@ pub fn cover(closed: &[u64], mask: u64, n: usize) -> u64
     ensures { result ≡ mask_of 64 (with_reached n (bit_at closed.now) (bit_of mask)) }
 {
     let mut all = mask;
-    let mut k = 0;
-    while k < n {
+    for k in 0..n {
         if has(mask, k) {
             all = union(all, mask_at(closed, k));
         }
-        k += 1;
     }
     all
 }

@@ -2,12 +2,7 @@
 
 // Puts bytes at the start of an output, as many as fit.
 pub fn copy(from: &[u8], out: &mut [u8]) {
-    let mut i = 0;
-    while i < out.len() {
-        if from.len() <= i {
-            return;
-        }
-        out[i] = from[i];
-        i += 1;
+    for (to, byte) in out.iter_mut().zip(from) {
+        *to = *byte;
     }
 }

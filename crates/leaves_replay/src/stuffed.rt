@@ -1,8 +1,9 @@
 // Cases of stuffing. Adding and removing: number, bytes written, length of the input, the input, the output afterwards.
 // Measuring: the length, the input.
+use crate::expected::is_answer;
+use refusals::Refusal;
 use replay_numbers::{pattern, two_bytes};
 use replay_parts::{behind, byte_at, first};
-use stuffing::Stuffed;
 
 const UNSTUFF: u8 = 1;
 
@@ -10,32 +11,12 @@ const RBSP_LENGTH: u8 = 2;
 
 // What an output holds beforehand.
 fn fill(out: &mut [u8]) {
-    let mut i = 0;
-    while i < out.len() {
-        out[i] = pattern(i);
-        i += 1;
+    for (i, byte) in out.iter_mut().enumerate() {
+        *byte = pattern(i);
     }
 }
 
-// Whether an answer is the number recorded, or success with the number of bytes recorded.
-fn is_answer(answer: Stuffed, number: u32, bytes: u32) -> bool {
-    match answer {
-        Stuffed::Done(n) => {
-            if number != 0 {
-                return false;
-            }
-            n == bytes as usize
-        }
-        Stuffed::Refused(n) => {
-            if number == 0 {
-                return false;
-            }
-            n == number
-        }
-    }
-}
-
-fn stuffed(tag: u8, input: &[u8], out: &mut [u8]) -> Stuffed {
+fn stuffed(tag: u8, input: &[u8], out: &mut [u8]) -> Result<usize, Refusal> {
     if tag == UNSTUFF {
         return stuffing::ebsp_to_rbsp(input, out);
     }
@@ -46,10 +27,8 @@ fn stuffed(tag: u8, input: &[u8], out: &mut [u8]) -> Stuffed {
 fn is_output_same(tag: u8, content: &[u8], input: &[u8], after: &[u8], out: &mut [u8]) -> bool {
     fill(out);
     let answer = stuffed(tag, input, out);
-    if !check::same(out, after) {
-        return false;
-    }
-    is_answer(answer, byte_at(content, 0), two_bytes(behind(content, 1)))
+    let bytes = two_bytes(behind(content, 1)) as usize;
+    is_answer(answer, byte_at(content, 0), bytes) && check::same(out, after)
 }
 
 pub fn is_same(tag: u8, content: &[u8], out: &mut [u8]) -> bool {

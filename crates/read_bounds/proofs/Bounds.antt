@@ -12,7 +12,7 @@ use Rattle.vps_definition.specs.TimingHrd.{Hrd, general_timing_hrd, du_values, s
 use Rattle.vps_definition.specs.Vps.{Header, Layers, Head, head, header_under, header, direct_reference, dependent_layer, independent_layer, layer, layers_section, output_flag, row, rows_section, no_rows, sets_section, slot_number_if, ptl_head, ptl_slot, ptl_section, ols_section, multi_layer_sections, single_layer_sections, buffer_sections, vps_under, vps}
 use Rattle.vps_laws.specs.Reading.{each_join}
 use Rattle.vps_laws.specs.Bound.{count_most}
-use Rattle.read_steps.specs.Fits.{Room, Fits}
+use Rattle.reading.specs.Fits.{Room, Fits}
 use Rattle.read_bounds.specs.Within.{Within, Bounded, Any, within_fits, within_taken, within_so, within_field, within_late, within_keep, within_mark, within_test, within_done, within_end, within_nothing, within_aligned, within_when, within_bind}
 use Rattle.read_bounds.proofs.Within.{within_after, within_one, within_u, within_ue, within_ue_minus1, within_inferred, within_u_if, within_ue_if, within_general, within_general_if, within_checked, within_keeps, within_loop, within_turns, within_repeat, words}
 use Rattle.read_bounds.specs.Bounds.{Small, Fields, sum_most, additional_most, Low, low_at, most_words}

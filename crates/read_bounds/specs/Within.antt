@@ -10,7 +10,7 @@ use Rattle.vps_definition.specs.Syntax.{Syntax, ◌>>=◌, Token, numbers, run}
 use Rattle.vps_definition.specs.Syntax.Syntax.{field, code, late, keep, mark, align, test, done}
 use Rattle.vps_definition.specs.Syntax.Outcome.{accepted}
 use Rattle.vps_definition.specs.Words.{check, nothing, when, aligned}
-use Rattle.read_steps.specs.Fits.{limit, Fits, fits_first, fits_second}
+use Rattle.reading.specs.Fits.{limit, Fits, fits_first, fits_second}
 use Rattle.vps_laws.specs.Loops.{bind_assoc}
 
 -- a reading that has room for c words fits, and so does what follows it from wherever it ends: at most c words on, with a

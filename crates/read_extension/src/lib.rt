@@ -1,12 +1,12 @@
 // Finds and stores the extension's bits, which more_rbsp_data() bounds.
 #![tactic(auto)]
 
-ghost use Rattle.std.specs.Prelude.{◌≡◌, ◌+◌, ◌*◌, ◌-◌, ◌≤◌, ◌<◌, length};
+ghost use Rattle.std.specs.Prelude.{◌≡◌, ◌+◌, ◌*◌, ◌-◌, ◌≤◌, ◌<◌, length, set};
 ghost use Rattle.std.proofs.lemmas.List.Edits.{sets};
 ghost use Rattle.vps_definition.specs.Reading.{bits_at, data_bits, most_rbsp_bytes};
-ghost use Rattle.read_steps.specs.Fits.{limit};
+ghost use Rattle.reading.specs.Fits.{limit};
 
-use read_steps::Cursor;
+use reading::Reading;
 use record_parts::Record;
 
 // How many bits are read from a place on while more_rbsp_data(): those before the last one-bit, sought from the end.
@@ -26,22 +26,23 @@ pub fn data_bits(bytes: &[u8], at: usize) -> usize
     0
 }
 
+// Stores a number where the record has such a place.
+fn store(rec: &mut [u32], at: usize, v: u32)
+    ensures { rec.new ≡ set rec.old at v }
+{
+    if at < rec.len() {
+        rec[at] = v;
+    }
+}
+
 // Stores so many bits from a place on.
 pub fn store_bits(bytes: &[u8], rec: &mut [u32], n: usize, at: usize, count: usize)
     ensures { at + count < limit → n + count < limit → rec.new ≡ sets rec.old n (bits_at bytes.now at count) }
 {
-    if Cursor::LIMIT <= at {
+    if Reading::LIMIT <= at || Reading::LIMIT <= n || Reading::LIMIT <= count {
         return;
     }
-    if Cursor::LIMIT <= n {
-        return;
-    }
-    if Cursor::LIMIT <= count {
-        return;
-    }
-    let mut j = 0;
-    while j < count {
-        read_steps::store(rec, n + j, bit_fields::bit_at(bytes, at + j));
-        j = j + 1;
+    for j in 0..count {
+        store(rec, n + j, bit_fields::bit_at(bytes, at + j));
     }
 }

@@ -27,47 +27,44 @@ firsts_more (suc j) x =
     ap (λ (l : List ℕ). get_or x 0 0 ∷ l) (firsts_more j (drop 2 x) ∙ ap (λ (v : ℕ). firsts j (drop 2 x) ++ (v ∷ [])) (get_or-drop 2 x (2 * j) 0 ∙ ap (λ (n : ℕ). get_or x n 0) e))
 
 -- no flag yet
-pub flags_begin : (r : List ℕ) (from : ℕ) → 0 ≡ mask_of 64 (flagged (firsts 0 (drop from r)))
+pub flags_begin : (x : List ℕ) → 0 ≡ mask_of 64 (flagged (firsts 0 x))
 unfolding firsts
-flags_begin r from = held_none.bits
+flags_begin x = held_none.bits
 
 -- a flag more in the mask
-pub flags_turn : (r : List ℕ) (from j mask : ℕ) {v mask' : ℕ} → mask ≡ mask_of 64 (flagged (firsts j (drop from r))) → v ≡ get_or r (from + 2 * j) 0 → mask' ≡ with_flag mask v j
-    → mask' ≡ mask_of 64 (flagged (firsts (j + 1) (drop from r)))
-flags_turn r from j mask {v} {mask'} e f g =
-    let x : List ℕ = drop from r in
+pub flags_turn : (x : List ℕ) (j mask : ℕ) {v mask' : ℕ} → mask ≡ mask_of 64 (flagged (firsts j x)) → v ≡ get_or x (2 * j) 0 → mask' ≡ with_flag mask v j
+    → mask' ≡ mask_of 64 (flagged (firsts (j + 1) x))
+flags_turn x j mask {v} {mask'} e f g =
     let n : j + 1 ≡ suc j = omega arith in
     g ∙ ap (with_flag mask v) (sym (firsts_length j x)) ∙ bits_turn (firsts j x) mask v e
-    ∙ ap (λ (w : ℕ). mask_of 64 (flagged (firsts j x ++ (w ∷ [])))) (f ∙ sym (get_or-drop from r (2 * j) 0))
+    ∙ ap (λ (w : ℕ). mask_of 64 (flagged (firsts j x ++ (w ∷ [])))) f
     ∙ ap (λ (l : List ℕ). mask_of 64 (flagged l)) (sym (firsts_more j x)) ∙ ap (λ (k : ℕ). mask_of 64 (flagged (firsts k x))) (sym n)
 
 -- ── A layer ───────────────────────────────────────────────────────────
-module _ (r : List ℕ) (at i : ℕ) where
-  flag_here : get_or (drop at r) 1 0 ≡ get_or r (at + 1) 0
-  flag_here = get_or-drop at r 1 0
-
-  pub mask_dependent : {v mask : ℕ} → v ≡ get_or r (at + 1) 0 → eqb v 0 ≡ true → mask ≡ mask_of 64 (flagged (firsts i (drop (at + 3) r))) → mask ≡ mask_of 64 (flagged (flags_in i (drop at r)))
+-- whose entry comes first
+module _ (x : List ℕ) (i : ℕ) {v : ℕ} (f : v ≡ get_or x 1 0) where
+  pub mask_dependent : {mask : ℕ} → eqb v 0 ≡ true → mask ≡ mask_of 64 (flagged (firsts i (drop 3 x))) → mask ≡ mask_of 64 (flagged (flags_in i x))
   unfolding flags_in
-  mask_dependent {v} f e m =
-      let g : eqb (get_or (drop at r) 1 0) 0 ≡ true = ap (λ (n : ℕ). eqb n 0) (flag_here ∙ sym f) ∙ e in
-      m ∙ rw g (ap (λ (x : List ℕ). mask_of 64 (flagged (firsts i x))) (sym (drop-drop 3 at r)))
+  mask_dependent e m =
+      let g : eqb (get_or x 1 0) 0 ≡ true = ap (λ (n : ℕ). eqb n 0) (sym f) ∙ e in
+      rw g m
 
-  pub mask_independent : {v : ℕ} → v ≡ get_or r (at + 1) 0 → eqb v 0 ≡ false → 0 ≡ mask_of 64 (flagged (flags_in i (drop at r)))
+  pub mask_independent : eqb v 0 ≡ false → 0 ≡ mask_of 64 (flagged (flags_in i x))
   unfolding flags_in
-  mask_independent {v} f e =
-      let g : eqb (get_or (drop at r) 1 0) 0 ≡ false = ap (λ (n : ℕ). eqb n 0) (flag_here ∙ sym f) ∙ e in
+  mask_independent e =
+      let g : eqb (get_or x 1 0) 0 ≡ false = ap (λ (n : ℕ). eqb n 0) (sym f) ∙ e in
       rw g held_none.bits
 
-  pub length_dependent : {v : ℕ} → v ≡ get_or r (at + 1) 0 → eqb v 0 ≡ true → entry_length i (drop at r) ≡ 3 + 2 * i
+  pub length_dependent : eqb v 0 ≡ true → entry_length i x ≡ 3 + 2 * i
   unfolding entry_length
-  length_dependent {v} f e =
-      let g : eqb (get_or (drop at r) 1 0) 0 ≡ true = ap (λ (n : ℕ). eqb n 0) (flag_here ∙ sym f) ∙ e in
+  length_dependent e =
+      let g : eqb (get_or x 1 0) 0 ≡ true = ap (λ (n : ℕ). eqb n 0) (sym f) ∙ e in
       rw g refl
 
-  pub length_independent : {v : ℕ} → v ≡ get_or r (at + 1) 0 → eqb v 0 ≡ false → entry_length i (drop at r) ≡ 3
+  pub length_independent : eqb v 0 ≡ false → entry_length i x ≡ 3
   unfolding entry_length
-  length_independent {v} f e =
-      let g : eqb (get_or (drop at r) 1 0) 0 ≡ false = ap (λ (n : ℕ). eqb n 0) (flag_here ∙ sym f) ∙ e in
+  length_independent e =
+      let g : eqb (get_or x 1 0) 0 ≡ false = ap (λ (n : ℕ). eqb n 0) (sym f) ∙ e in
       rw g refl
 
 pub flags_short : (i : ℕ) (x : List ℕ) → length (flags_in i x) ≤ i
@@ -88,30 +85,29 @@ pub record Stored (refs : List (List ℕ)) (n : ℕ) (before after : List ℕ) :
   pub masks : Closed (refers_by refs) after (stored n (length before))
   pub behind : drop (stored n (length before)) after ≡ drop (stored n (length before)) before
 
--- behind turn i: the masks of the layers so far, and the flags of the rest from here on
-pub record SoFar (r : List ℕ) (n i at : ℕ) (before closed : List ℕ) : Type 0 where
+-- behind turn i: the masks of the layers so far, and the flags of the rest in the numbers from here on
+pub record SoFar (r : List ℕ) (n i : ℕ) (x before closed : List ℕ) : Type 0 where
   pub refs : List (List ℕ)
   pub referred : Referred refs closed i
-  pub rest : flags_from n 0 (drop 9 r) ≡ refs ++ flags_from (n - i) i (drop at r)
+  pub rest : flags_from n 0 (drop 9 r) ≡ refs ++ flags_from (n - i) i x
   pub behind : drop i closed ≡ drop i before
 
-pub so_far_none : (r : List ℕ) (n : ℕ) {closed : List ℕ} → SoFar r n 0 9 closed closed
-so_far_none r n = let e : n ≡ n - 0 = omega arith in record { refs = []; referred = referred_none; rest = ap (λ (k : ℕ). flags_from k 0 (drop 9 r)) e; behind = refl }
+pub so_far_none : (r : List ℕ) (n : ℕ) {x closed : List ℕ} → x ≡ drop 9 r → SoFar r n 0 x closed closed
+so_far_none r n e = let z : n ≡ n - 0 = omega arith in record { refs = []; referred = referred_none; rest = rw e (ap (λ (k : ℕ). flags_from k 0 (drop 9 r)) z); behind = refl }
 
-pub so_far_turn : (r : List ℕ) (n i at : ℕ) {next mask : ℕ} {before closed closed' : List ℕ} → i < n → i < 64 → i < length closed → SoFar r n i at before closed
-    → mask ≡ mask_of 64 (flagged (flags_in i (drop at r))) → closed' ≡ set closed i (mask_of 64 (with_reached i (bit_at closed) (bit_of mask)))
-    → next ≡ at + entry_length i (drop at r) → SoFar r n (i + 1) next before closed'
+pub so_far_turn : (r : List ℕ) (n i : ℕ) {x next : List ℕ} {mask : ℕ} {before closed closed' : List ℕ} → i < n → i < 64 → i < length closed → SoFar r n i x before closed
+    → mask ≡ mask_of 64 (flagged (flags_in i x)) → closed' ≡ set closed i (mask_of 64 (with_reached i (bit_at closed) (bit_of mask)))
+    → next ≡ drop (entry_length i x) x → SoFar r n (i + 1) next before closed'
 unfolding flags_from
-so_far_turn r n i at {next = next} {before = before} {closed = closed} l u v S m c e =
-    let x : List ℕ = drop at r in
+so_far_turn r n i {x} {next} {before = before} {closed = closed} l u v S m c e =
     let k : n - i ≡ suc (n - (i + 1)) = omega arith in
     record {
       refs = S.refs ++ (flags_in i x ∷ []);
       referred = referred_with (flags_in i x) u v c m (flags_short i x) S.referred;
       rest =
           S.rest ∙ ap (λ (j : ℕ). S.refs ++ flags_from j i x) k
-          ∙ ap (λ (y : List ℕ). S.refs ++ (flags_in i x ∷ flags_from (n - (i + 1)) (i + 1) y)) (drop-drop (entry_length i x) at r ∙ ap (λ (j : ℕ). drop j r) (sym e))
-          ∙ sym (append_assoc S.refs (flags_in i x ∷ []) (flags_from (n - (i + 1)) (i + 1) (drop next r)));
+          ∙ ap (λ (y : List ℕ). S.refs ++ (flags_in i x ∷ flags_from (n - (i + 1)) (i + 1) y)) (sym e)
+          ∙ sym (append_assoc S.refs (flags_in i x ∷ []) (flags_from (n - (i + 1)) (i + 1) next));
       behind =
           ap (drop (i + 1)) c ∙ drop-set-lt (i + 1) closed i _ (omega arith)
           ∙ sym (drop-drop 1 i closed) ∙ ap (drop 1) S.behind ∙ drop-drop 1 i before;
@@ -122,8 +118,8 @@ refers_first : (refs more : List (List ℕ)) (k : ℕ) → k < length refs → (
 refers_first refs more k u l = ap (λ (x : List ℕ). flagged x l) (sym (get_or-append refs more [] k u))
 
 -- at the last turn, be it the last layer, the last place or the last bit of a mask
-pub so_far_all : (r : List ℕ) (n i at : ℕ) {before closed : List ℕ} → i ≡ stored n (length before) → SoFar r n i at before closed → Stored (flags_from n 0 (drop 9 r)) n before closed
-so_far_all r n i at {before = before} {closed = closed} e S =
+pub so_far_all : (r : List ℕ) (n i : ℕ) {x before closed : List ℕ} → i ≡ stored n (length before) → SoFar r n i x before closed → Stored (flags_from n 0 (drop 9 r)) n before closed
+so_far_all r n i {before = before} {closed = closed} e S =
     let refs : List (List ℕ) = flags_from n 0 (drop 9 r) in
     let C : Closed (refers_by S.refs) closed i = S.referred.masks in
     let D : Closed (refers_by refs) closed i =

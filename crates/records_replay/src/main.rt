@@ -1,58 +1,57 @@
 // Replays recorded answers of the writer to records, and prints how many there are and how many differ.
 #![tactic(auto)]
 
-mod buffers;
-mod writing;
+ghost use Rattle.std.specs.Prelude.{◌<◌, ◌^◌};
 
-use replay_list::{Next, Replayed};
-use replay_parts::first;
+mod written;
 
-// More records than any list has.
-const MOST_RECORDS: u64 = 1_000_000;
+use replay_list::Replayer;
 
-// Whether a case is as recorded; tag 2 is one with longer buffers.
-fn is_same(tag: u8, content: &[u8]) -> bool {
-    if tag == 1 {
-        return writing::is_same(content);
-    }
-    if tag == 2 {
-        return writing::is_long_same(content);
-    }
-    false
+// How long the buffers of a case may be.
+#[derive(Clone, Copy, PartialEq, Eq)]
+enum Size {
+    Small = 1,
+    Large = 2,
 }
 
-// Reads a record and replays it. One that is cut off or too long counts as a case that differs.
-fn replay_record(count: u64) -> Replayed {
-    let mut content = [0u8; 16384];
-    match replay_list::read_record(&mut content, count) {
-        Next::Case(tag, length) => replay_list::case(is_same(tag, first(&content, length))),
-        Next::Broken => Replayed::Different,
-        Next::Kind => Replayed::Kind,
-        Next::End => Replayed::End,
+// A tag that no case has.
+#[derive(Clone, Copy, Debug)]
+struct UnknownTag;
+
+impl TryFrom<u8> for Size {
+    type Error = UnknownTag;
+
+    fn try_from(tag: u8) -> Result<Size, UnknownTag> {
+        match tag {
+            1 => Ok(Size::Small),
+            2 => Ok(Size::Large),
+            _ => Err(UnknownTag),
+        }
+    }
+}
+
+// Replays a case on a record and an output of up to so many numbers and bytes.
+fn is_same_within<const NUMBERS: usize, const BYTES: usize>(content: &[u8]) -> bool
+    requires numbers { NUMBERS < 2 ^ 32 }
+    requires bytes { BYTES < 2 ^ 32 }
+{
+    written::is_same(content, &mut [0; NUMBERS], &mut [0; BYTES])
+}
+
+// The writer of whole records.
+struct Records;
+
+impl Replayer for Records {
+    fn is_same(&self, tag: u8, content: &[u8]) -> bool {
+        match Size::try_from(tag) {
+            Ok(Size::Small) => is_same_within::<8192, 4096>(content),
+            Ok(Size::Large) => is_same_within::<524800, 66048>(content),
+            Err(UnknownTag) => false,
+        }
     }
 }
 
 fn main() {
-    let mut records = 0;
-    let mut count = 0;
-    let mut different = 0;
-    while records < MOST_RECORDS {
-        records += 1;
-        match replay_record(count) {
-            Replayed::Same => {
-                count += 1;
-            }
-            Replayed::Different => {
-                count += 1;
-                different += 1;
-            }
-            Replayed::Kind => {
-                count = 0;
-            }
-            Replayed::End => {
-                replay_list::print_count(b"different", different);
-                return;
-            }
-        }
-    }
+    let mut content = [0u8; 16384];
+    replay_list::replay(&Records, &mut content);
 }

@@ -1,4 +1,4 @@
--- The numbers of the refusals, each with the condition that it names: `src/lib.rt` has the same for the code, and each contract holds the two together.
+-- The numbers of the refusals, each with the condition that it names: `src/refusal.rt` has the same for the code, and `Refusals` holds the two together.
 use Rattle.std.specs.Prelude.{ℕ}
 
 -- header: under 2 bytes

@@ -1,16 +1,15 @@
-// Reads a list of recorded answers record by record; what a case was, and a printed count.
+// Reads a list of recorded answers record by record, has its cases replayed, and prints counts.
 #![tactic(auto)]
 
-ghost use Rattle.std.specs.Prelude.{◌≡◌};
-ghost use Rattle.replay_list.specs.Replayed.{replayed};
-
-use replay_numbers::two_bytes;
-use replay_parts::behind;
+ghost use Rattle.std.specs.Prelude.{◌≡◌, ◌+◌, ◌<◌, ◌^◌, cond};
 
 // Standard input and output.
 const STDIN_FILENO: i32 = 0;
 
 const STDOUT_FILENO: i32 = 1;
+
+// More records than any list has.
+const MOST_RECORDS: u64 = 1_000_000;
 
 // Prints a word and a count.
 pub fn print_count(word: &[u8], count: u64) {
@@ -20,67 +19,82 @@ pub fn print_count(word: &[u8], count: u64) {
     io::write_all(STDOUT_FILENO, b"\n");
 }
 
-// What the next record is.
+// How a program replays the cases of its list.
+pub trait Replayer {
+    // Whether the answers to a case are those recorded; the tag says what is asked.
+    fn is_same(&self, tag: u8, content: &[u8]) -> bool;
+}
+
+// A record of the list.
 #[derive(Clone, Copy)]
-pub enum Next {
-    // a case: its tag, and the length of its content
-    Case(u8, usize),
-    // one that is cut off, or longer than what is lent
-    Broken,
-    // the end of a kind of cases, whose name and number are printed
-    Kind,
-    // the end of the list
-    End,
+enum Record<'a> {
+    // the end of a kind of cases, with its name
+    Kind(&'a [u8]),
+    // a case: its tag and its content
+    Case(u8, &'a [u8]),
 }
 
-// Reads the content of a record; tag 0 names the kind of the cases before it.
-fn read_content(tag: u8, content: &mut [u8], count: u64) -> Next {
-    let got = io::read_full(STDIN_FILENO, content);
-    if got < content.len() {
-        return Next::Broken;
-    }
-    if tag == 0 {
-        print_count(content, count);
-        return Next::Kind;
-    }
-    Next::Case(tag, got)
-}
+// A record is cut off, or longer than what is lent.
+#[derive(Clone, Copy, Debug)]
+struct Broken;
 
-// Reads the next record from standard input into the start of a lent slice.
-pub fn read_record(content: &mut [u8], count: u64) -> Next {
+// Reads the next record from standard input into the start of a lent slice; none at the end of the list.
+fn read_record(content: &mut [u8]) -> Result<Option<Record<'_>>, Broken> {
     let mut head = [0u8; 3];
     let got = io::read_full(STDIN_FILENO, &mut head);
     if got == 0 {
-        return Next::End;
+        return Ok(None);
     }
-    if got < 3 {
-        return Next::Broken;
+    let length = usize::from(u16::from_be_bytes([head[1], head[2]]));
+    if got < head.len() || content.len() < length {
+        return Err(Broken);
     }
-    let length = two_bytes(behind(&head, 1)) as usize;
-    if content.len() < length {
-        return Next::Broken;
+    let content = &mut content[..length];
+    if io::read_full(STDIN_FILENO, content) < length {
+        return Err(Broken);
     }
-    read_content(head[0], &mut content[0..length], count)
+    match head[0] {
+        0 => Ok(Some(Record::Kind(content))),
+        tag => Ok(Some(Record::Case(tag, content))),
+    }
 }
 
-// What a record was.
-#[derive(Clone, Copy)]
-pub enum Replayed {
-    // a case whose answers are those recorded
-    Same,
-    Different,
-    // the end of a kind of cases
-    Kind,
-    // the end of the list
-    End,
+// How many cases there are of a kind so far, and how many of all kinds differ.
+#[derive(Clone, Copy, Default)]
+struct Counts {
+    cases: u64,
+    different: u64,
 }
 
-pub fn case(same: bool) -> Replayed
-    ensures { result ≡ replayed same }
-{
-    if same {
-        Replayed::Same
-    } else {
-        Replayed::Different
+impl Counts {
+    // Counts one more case.
+    fn add(&mut self, same: bool)
+        requires cases { self.old.cases + 1 < 2 ^ 64 }
+        requires different { self.old.different + 1 < 2 ^ 64 }
+        ensures cases { self.new.cases ≡ self.old.cases + 1 }
+        ensures different { self.new.different ≡ self.old.different + cond same 0 1 }
+    {
+        self.cases += 1;
+        self.different += u64::from(!same);
+    }
+}
+
+// Replays the list on standard input, each record by way of a lent slice; prints how many cases each kind has, and how many
+// differ. A record that is cut off or too long counts as a case that differs.
+pub fn replay<R: Replayer>(replayer: &R, content: &mut [u8]) {
+    let mut counts = Counts::default();
+    for _ in 0..MOST_RECORDS {
+        match read_record(content) {
+            Ok(None) => {
+                print_count(b"different", counts.different);
+                return;
+            }
+            Ok(Some(Record::Kind(name))) => {
+                print_count(name, counts.cases);
+                counts.cases = 0;
+            }
+            Ok(Some(Record::Case(tag, content))) => counts.add(replayer.is_same(tag, content)),
+            Err(Broken) => counts.add(false),
+        }
     }
 }

@@ -5,36 +5,31 @@ use Rattle.std.proofs.Common.{lt-ltb, le-ltb}
 abbrev pub two : List ℕ → ℕ
 two x = get_or x 0 0 * 256 + get_or x 1 0
 
-unfoldable pub four : List ℕ → ℕ
+abbrev pub four : List ℕ → ℕ
 four x = two x * 65536 + two (drop 2 x)
 
-unfoldable pub eight : List ℕ → ℕ
+abbrev pub eight : List ℕ → ℕ
 eight x = four x * 4294967296 + four (drop 4 x)
 
 -- A number among others: a byte below 255, or 255 and four bytes.
-unfoldable pub number_at : List ℕ → ℕ → ℕ
+abbrev pub number_at : List ℕ → ℕ → ℕ
 number_at x at = cond (ltb (get_or x at 0) 255) (get_or x at 0) (four (drop 1 (drop at x)))
 
 -- The place behind it.
-unfoldable pub place_behind : List ℕ → ℕ → ℕ
+abbrev pub place_behind : List ℕ → ℕ → ℕ
 place_behind x at = cond (ltb at (length x)) (at + cond (ltb (get_or x at 0) 255) 1 5) at
 
 pub number_of_byte : (x : List ℕ) (at : ℕ) → get_or x at 0 < 255 → number_at x at ≡ get_or x at 0
-unfolding number_at
 number_of_byte x at h = rw (lt-ltb (get_or x at 0) 255 h) refl
 
 pub number_of_four : (x : List ℕ) (at : ℕ) → 255 ≤ get_or x at 0 → number_at x at ≡ four (drop 1 (drop at x))
-unfolding number_at
 number_of_four x at h = rw (le-ltb (get_or x at 0) 255 h) refl
 
 pub place_past_end : (x : List ℕ) (at : ℕ) → length x ≤ at → place_behind x at ≡ at
-unfolding place_behind
 place_past_end x at h = rw (le-ltb at (length x) h) refl
 
 pub place_behind_byte : (x : List ℕ) (at : ℕ) → at < length x → get_or x at 0 < 255 → place_behind x at ≡ at + 1
-unfolding place_behind
 place_behind_byte x at h b = rw (lt-ltb at (length x) h, lt-ltb (get_or x at 0) 255 b) refl
 
 pub place_behind_four : (x : List ℕ) (at : ℕ) → at < length x → 255 ≤ get_or x at 0 → place_behind x at ≡ at + 5
-unfolding place_behind
 place_behind_four x at h b = rw (lt-ltb at (length x) h, le-ltb (get_or x at 0) 255 b) refl

@@ -1,54 +1,97 @@
 // Numbers of a recorded case's content, and those that an output holds beforehand.
 #![tactic(auto)]
 
-ghost use Rattle.std.specs.Prelude.{◌≡◌, ◌-◌, ◌%◌, ◌<◌};
+ghost use Rattle.std.specs.Prelude.{ℕ, ◌≡◌, ◌-◌, ◌%◌, ◌<◌, get_or, take, drop, length, HoldsAt};
 ghost use Rattle.replay_numbers.specs.Numbers.{two, four, eight, number_at, place_behind};
 
-use replay_parts::{behind, byte_at};
+use replay_parts::{behind, first};
+
+// The first N bytes; past the end each byte is 0.
+fn padded<const N: usize>(content: &[u8]) -> [u8; N]
+    ensures { (k : ℕ) → k < N → get_or result k 0 ≡ get_or content.now k 0 }
+{
+    let mut bytes = [0; N];
+    for (i, byte) in bytes.iter_mut().enumerate() {
+        *byte = content.get(i).copied().unwrap_or(0);
+    }
+    bytes
+}
 
 // The number of the first two bytes, the highest byte first.
 pub fn two_bytes(content: &[u8]) -> u32
     ensures { (result ≡ two content.now) × (result < 65536) }
 {
-    byte_at(content, 0) * 256 + byte_at(content, 1)
+    u32::from(u16::from_be_bytes(padded(content)))
 }
 
 // The number of the first four bytes.
 pub fn four_bytes(content: &[u8]) -> u32
     ensures { result ≡ four content.now }
 {
-    two_bytes(content) * 65536 + two_bytes(behind(content, 2))
+    u32::from_be_bytes(padded(content))
 }
 
 // The number of the first eight bytes.
 pub fn eight_bytes(content: &[u8]) -> usize
     ensures { result ≡ eight content.now }
 {
-    four_bytes(content) as usize * 4_294_967_296 + four_bytes(behind(content, 4)) as usize
+    usize::from_be_bytes(padded(content))
 }
 
-// The number at a place among others: a byte below 255, or 255 and four bytes.
-pub fn number_at(numbers: &[u8], at: usize) -> u32
-    ensures { result ≡ number_at numbers.now at }
-{
-    let least = byte_at(numbers, at);
-    if least < 255 {
-        return least;
-    }
-    four_bytes(behind(behind(numbers, at), 1))
+// What is left of a content: bytes and numbers are taken from its front; past the end each byte is 0.
+#[derive(Clone, Copy)]
+pub struct Content<'a> {
+    pub rest: &'a [u8],
 }
 
-// The place behind that number; past the end, the place itself.
-pub fn next_place(numbers: &[u8], at: usize) -> usize
-    ensures { result ≡ place_behind numbers.now at }
-{
-    if numbers.len() <= at {
-        return at;
+impl<'a> Content<'a> {
+    // The next n bytes, or all where there are fewer.
+    pub fn bytes(&mut self, n: usize) -> &'a [u8]
+        ensures value { result.now ≡ take n self.old.rest.now }
+        ensures rest { self.new.rest.now ≡ drop n self.old.rest.now }
+    {
+        let bytes = first(self.rest, n);
+        self.rest = behind(self.rest, n);
+        bytes
     }
-    if byte_at(numbers, at) < 255 {
-        return at + 1;
+
+    // The next byte.
+    pub fn byte(&mut self) -> u8
+        ensures value { result ≡ get_or self.old.rest.now 0 0 }
+        ensures rest { self.new.rest.now ≡ drop 1 self.old.rest.now }
+    {
+        let [byte] = padded::<1>(self.bytes(1));
+        byte
     }
-    at + 5
+
+    // The number of the next two bytes.
+    pub fn two_bytes(&mut self) -> u32
+        ensures value { result ≡ two self.old.rest.now }
+        ensures least { result < 65536 }
+        ensures rest { self.new.rest.now ≡ drop 2 self.old.rest.now }
+    {
+        two_bytes(self.bytes(2))
+    }
+
+    // The number of the next four bytes.
+    pub fn four_bytes(&mut self) -> u32
+        ensures value { result ≡ four self.old.rest.now }
+        ensures rest { self.new.rest.now ≡ drop 4 self.old.rest.now }
+    {
+        four_bytes(self.bytes(4))
+    }
+
+    // The next number among others: a byte below 255, or 255 and four bytes.
+    pub fn number(&mut self) -> u32
+        ensures value { result ≡ number_at self.old.rest.now 0 }
+        ensures rest { self.new.rest.now ≡ drop (place_behind self.old.rest.now 0) self.old.rest.now }
+    {
+        let least = self.byte();
+        if least < 255 {
+            return u32::from(least);
+        }
+        self.four_bytes()
+    }
 }
 
 // What an output holds beforehand at an index.
@@ -56,4 +99,13 @@ pub fn pattern(i: usize) -> u8
     ensures { result ≡ 255 - i % 256 }
 {
     (255 - i % 256) as u8
+}
+
+// Fills a buffer with what it holds beforehand.
+pub fn fill_pattern<T: From<u8> + Drop>(buffer: &mut [T])
+    ensures { (k : ℕ) → k < length buffer.new → HoldsAt (λ y. T.from_gives (255 - k % 256) y) buffer.new k }
+{
+    for (i, number) in buffer.iter_mut().enumerate() {
+        *number = T::from(pattern(i));
+    }
 }

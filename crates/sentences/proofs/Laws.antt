@@ -1,10 +1,10 @@
 -- What holds of the table, by tests that compute over it, and what follows for every number and all bytes.
-use Rattle.std.specs.Prelude.{ℕ, zero, suc, ◌+◌, ◌≤◌, ◌≡◌, refl, List, [], ◌∷◌, ◌++◌, Bool, true, false, ◌⊎◌, leb, length}
+use Rattle.std.specs.Prelude.{ℕ, zero, suc, ◌≤◌, ◌≡◌, refl, List, [], ◌∷◌, ◌++◌, Bool, true, false, ◌⊎◌, leb, length}
 use Rattle.std.proofs.Common.{sym, ap, ◌∙◌, append_assoc, inl, inr, add-zero, arith, leb-true, leb-false, eqb-true}
 use Rattle.lists.specs.Table.{and_both, every_below_lem}
 use Rattle.sentences.specs.Sentences.{Row, table, last_number, words_of, word_of, blank, joined, sentence_of, is_sentence, number_from, number_of}
 use Rattle.sentences.specs.Words.{three_words, three_words_lem}
-use Rattle.sentences.specs.Laws.{InTable, in_table, sentence_bytes, row_good, table_good, Good, nothing_past, nothing_at_zero, spoken, is_sentence_lem, Found, Says}
+use Rattle.sentences.specs.Laws.{InTable, sentence_bytes, row_good, table_good, Good, no_words, nothing_said, spoken, is_sentence_lem, Found, Says}
 
 pub good : (n : ℕ) → InTable n → Good n
 unfolding row_good
@@ -25,18 +25,15 @@ sentence_most n = go (leb 1 n) refl (leb n last_number) refl
   where
     go : (a : Bool) → leb 1 n ≡ a → (b : Bool) → leb n last_number ≡ b → length (sentence_of n) ≤ sentence_bytes
     go true e true f = (good n (record { first = leb-true 1 n e; last = leb-true n last_number f })).short
-    go true e false f = omega (arith, ap length (nothing_past n (leb-false n last_number f)))
-    go false e b f = omega (arith, ap length (nothing_at_zero n (omega (arith, leb-false 1 n e))))
+    go true e false f = omega (arith, ap length (nothing_said n (no_words n (λ t. omega (arith, t.last, leb-false n last_number f)))))
+    go false e b f = omega (arith, ap length (nothing_said n (no_words n (λ t. omega (arith, t.first, leb-false 1 n e)))))
 
-pub sentence_is : (n : ℕ) → InTable n → word_of n 0 ++ (blank ∷ []) ++ word_of n 1 ++ (blank ∷ []) ++ word_of n 2 ≡ sentence_of n
+pub sentence_is : (n : ℕ) → InTable n → word_of n 0 ++ (blank ∷ word_of n 1) ++ (blank ∷ word_of n 2) ≡ sentence_of n
 unfolding spoken sentence_of joined
 sentence_is n h =
     let t = (good n h).words in
     let e : words_of n ≡ t.place ∷ t.field ∷ t.fault ∷ [] = t.words in
-    ap spoken e ∙ in_order t.place t.field t.fault ∙ sym (ap joined e)
-  where
-    in_order : (p f x : List ℕ) → p ++ (blank ∷ []) ++ f ++ (blank ∷ []) ++ x ≡ p ++ (blank ∷ (f ++ (blank ∷ x)))
-    in_order p f x = simp append_assoc
+    ap spoken e ∙ append_assoc t.place (blank ∷ t.field) (blank ∷ t.fault) ∙ sym (ap joined e)
 
 found_or_none : (m : ℕ) (rows : List Row) (s : List ℕ) → (number_from m rows s ≡ 0) ⊎ Found m rows s
 unfolding number_from

@@ -1,10 +1,8 @@
 -- What putting a sentence into a lent output says.
-use Rattle.std.specs.Prelude.{ℕ}
+use Rattle.std.specs.Prelude.{ℕ, Result, Ok, Err}
 use Rattle.refusals.specs.Answer.{Answer}
 use Rattle.refusals.specs.Answer.Answer.{success, refusal}
-use Rattle.sentences.specs.declared.Worded.{Worded}
-use Rattle.sentences.specs.declared.Worded.TheVariants.{Done, Refused}
 
-abbrev pub worded_answer : Worded → Answer ℕ
-worded_answer (Done n) = success n
-worded_answer (Refused n) = refusal n
+abbrev pub worded_answer : Result ℕ ℕ → Answer ℕ
+worded_answer (Ok n) = success n
+worded_answer (Err n) = refusal n

@@ -1,6 +1,6 @@
 -- What holds of the table, by tests that compute over it, and what follows for every number and all bytes.
-use Rattle.std.specs.Prelude.{ℕ, zero, suc, ◌+◌, ◌≤◌, ◌<◌, ◌≡◌, refl, List, [], ◌∷◌, ◌++◌, map, Bool, true, ◌&&◌, leb, eqb, length, get_or}
-use Rattle.std.proofs.Common.{ap, not-suc-le-zero, le_of_suc-le-suc, arith}
+use Rattle.std.specs.Prelude.{ℕ, zero, suc, ◌+◌, ◌≤◌, ◌<◌, ◌≡◌, refl, List, [], ◌∷◌, ◌++◌, map, Bool, true, false, ◌&&◌, leb, eqb, length, get_or}
+use Rattle.std.proofs.Common.{ap, not-suc-le-zero, le_of_suc-le-suc, arith, leb-true, leb-false}
 use Rattle.std.proofs.lemmas.List.{length-map}
 use Rattle.lists.specs.Same.{same, same_true}
 use Rattle.lists.specs.Table.{every_below}
@@ -45,17 +45,23 @@ past_end [] k d h = refl
 past_end (x ∷ l) zero d h = absurd (not-suc-le-zero h)
 past_end (x ∷ l) (suc k) d h = past_end l k d (le_of_suc-le-suc h)
 
-pub nothing_past : (n : ℕ) → last_number < n → sentence_of n ≡ []
-unfolding words_of last_number sentence_of joined
-nothing_past n h = ap joined (past_end ([] ∷ map words_of_row table) n [] (omega (arith, h, length-map table words_of_row)))
+pub no_words : (n : ℕ) → (InTable n → ⊥) → words_of n ≡ []
+unfolding words_of last_number
+no_words zero h = refl
+no_words (suc n) h = go (leb (suc n) last_number) refl
+  where
+    go : (b : Bool) → leb (suc n) last_number ≡ b → get_or ([] ∷ map words_of_row table) (suc n) [] ≡ []
+    go true e = absurd (h (record { first = omega arith; last = leb-true (suc n) last_number e }))
+    go false e = past_end (map words_of_row table) n [] (omega (arith, leb-false (suc n) last_number e, length-map table words_of_row))
 
-pub nothing_at_zero : (n : ℕ) → n ≡ 0 → sentence_of n ≡ []
-unfolding words_of sentence_of joined
-nothing_at_zero n e = ap sentence_of e
+-- so their sentence is empty
+pub nothing_said : (n : ℕ) → words_of n ≡ [] → sentence_of n ≡ []
+unfolding sentence_of joined
+nothing_said n e = ap joined e
 
 -- ── Word by word ──────────────────────────────────────────────────────
 unfoldable pub spoken : List (List ℕ) → List ℕ
-spoken ws = get_or ws 0 [] ++ (blank ∷ []) ++ get_or ws 1 [] ++ (blank ∷ []) ++ get_or ws 2 []
+spoken ws = get_or ws 0 [] ++ (blank ∷ get_or ws 1 []) ++ (blank ∷ get_or ws 2 [])
 
 -- ── Which bytes give which number ─────────────────────────────────────
 pub is_sentence_lem : (r : Row) (s : List ℕ) → is_sentence r s ≡ true → joined (words_of_row r) ≡ s

@@ -6,7 +6,6 @@ mod page;
 mod row;
 
 use replay_list::print_count;
-use replay_parts::behind;
 
 // Standard input.
 const STDIN_FILENO: i32 = 0;
@@ -14,50 +13,32 @@ const STDIN_FILENO: i32 = 0;
 // More bytes than the page has.
 const PAGE_BYTES: usize = 16384;
 
-// What the rows of a page come to.
-#[derive(Clone, Copy)]
+// What the rows of a page come to; no sum comes near the limit of its type.
+#[derive(Clone, Copy, Default)]
 struct Counts {
     rows: u32,
-    bytes: u32,
+    bytes: usize,
     different: u32,
 }
 
-fn length(bytes: &[u8]) -> u32 {
-    if bytes.len() < PAGE_BYTES {
-        return bytes.len() as u32;
+impl Counts {
+    // With one more row.
+    fn count_row(&mut self, number: u32, sentence: &[u8]) {
+        self.rows = self.rows.saturating_add(1);
+        self.bytes = self.bytes.saturating_add(sentence.len());
+        if !row::is_same(number, sentence) {
+            self.different = self.different.saturating_add(1);
+        }
     }
-    0
-}
-
-// With one more row.
-fn with_row(counts: Counts, number: u32, sentence: &[u8]) -> Counts {
-    let different = if row::is_same(number, sentence) { 0 } else { 1 };
-    Counts {
-        rows: page::sum(counts.rows, 1),
-        bytes: page::sum(counts.bytes, length(sentence)),
-        different: page::sum(counts.different, different),
-    }
-}
-
-// With what a line holds.
-fn with_line(counts: Counts, line: &[u8]) -> Counts {
-    if page::is_row(line) {
-        return with_row(counts, page::number(line), page::sentence(line));
-    }
-    counts
 }
 
 // What the lines of a page come to.
 fn counted(page: &[u8]) -> Counts {
-    let mut counts = Counts {
-        rows: 0,
-        bytes: 0,
-        different: 0,
-    };
-    let mut at = 0;
-    while at < page.len() {
-        counts = with_line(counts, behind(page, at));
-        at = page::next_line(page, at);
+    let mut counts = Counts::default();
+    for line in page.split(|byte| *byte == b'\n') {
+        if page::is_row(line) {
+            counts.count_row(page::number(line), page::sentence(line));
+        }
     }
     counts
 }

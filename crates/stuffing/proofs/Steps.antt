@@ -7,12 +7,11 @@ use native.Mathlib.Omega.{arith}
 use native.Mathlib.Numerals.{add-one}
 use lib.Dec.{leb, ltb, eqb}
 use borrow.Author.Tests.{le-leb, lt-leb, leb-true, ne_eqb}
-use lib.ListN.{length, get_or, drop, set, length-append, length-set, drop_of_length-le}
+use lib.ListN.{length, get_or, drop, set, length-set, drop_of_length-le}
 use lib.Seq.{set-set, sets-eq, sets, drop-cons}
+use Rattle.refusals.specs.Answer.Answer.{success, refusal}
 use Rattle.refusals.specs.Number.{output_too_short}
 use Rattle.refusals.specs.Lent.{lent, output_after}
-use Rattle.stuffing.specs.declared.Stuffed.TheVariants.{Done, Refused}
-use Rattle.stuffing.specs.Answers.{Lends}
 use Rattle.stuffing.specs.Stuffing.{zeros_behind, unstuff, guarded, added, zeros_added, stuff_behind, stuff}
 use Rattle.stuffing.specs.Laws.{stuff_length, stuff_longer, unstuff_length}
 use Rattle.stuffing.specs.Machine.{dropped, zeros_in, more_in, unstuff_behind, unstuff_machine}
@@ -21,13 +20,6 @@ use Rattle.stuffing.specs.Machine.{dropped, zeros_in, more_in, unstuff_behind, u
 pub and_false : (t : Bool) → (t && false) ≡ false
 and_false true = refl
 and_false false = refl
-
--- a 03 is dropped where both are 0
-pub dropped_03 : (a b c : ℕ) → b ≡ 0 → c ≡ 3 → eqb a 0 ≡ dropped (zeros_in a b) c
-dropped_03 a b c p q = go (eqb a 0) ∙ (λ j. dropped (zeros_in a (sym p j)) (sym q j)) where
-  go : (t : Bool) → t ≡ (leb 2 (cond t 2 1) && true)
-  go true = refl
-  go false = refl
 
 -- a byte more: the zeros are counted by the two last ones
 zeros_after : (a b c : ℕ) → zeros_in b c ≡ zeros_behind (zeros_in a b) c
@@ -66,21 +58,17 @@ written_byte : {t o₀ rest o o' : List ℕ} {n b : ℕ} → Written t o₀ (b �
 written_byte {o = o} {n = n} {b = b} w e =
     record { long = ap length e ∙ length-set o n b ∙ w.long; total = omega (arith, w.total); whole = rw (e, add-one n) w.whole }
 
-written_all : {t o₀ o : List ℕ} {n : ℕ} → Written t o₀ [] o n → (n ≡ length t) × (o ≡ sets o₀ 0 t)
-written_all w = (omega (arith, w.total), w.whole)
-
-written_room : {t o₀ rest o : List ℕ} {n : ℕ} → Written t o₀ rest o n → length t ≤ length o₀ → n + length rest ≤ length o
-written_room w room = omega (arith, w.long, w.total)
+written_all : {t o₀ o : List ℕ} {n : ℕ} → Written t o₀ [] o n → record { counted : n ≡ length t; stored : o ≡ sets o₀ 0 t }
+written_all w = record { counted = omega (arith, w.total); stored = w.whole }
 
 -- ── Removing ──────────────────────────────────────────────────────────
 -- before a turn: i bytes of s are read and end in z zeros, and n are stored
 pub record Removing (s o₀ o : List ℕ) (i n z : ℕ) : Type 0 where
-  pub inside : i ≤ length s
   pub few : n ≤ i
   pub written : Written (unstuff s) o₀ (unstuff_behind z (drop i s)) o n
 
 pub removing_start : (s o : List ℕ) → Removing s o o 0 0 0
-removing_start s o = record { inside = omega arith; few = omega arith; written = rw (unstuff_machine s) (written_none (unstuff_behind 0 s) o) }
+removing_start s o = record { few = omega arith; written = rw (unstuff_machine s) (written_none (unstuff_behind 0 s) o) }
 
 -- by the last two bytes, a and b
 module _ {s o₀ o : List ℕ} {i n : ℕ} (a b : ℕ) (l : Removing s o₀ o i n (zeros_in a b)) (h : i < length s) where
@@ -90,29 +78,25 @@ module _ {s o₀ o : List ℕ} {i n : ℕ} (a b : ℕ) (l : Removing s o₀ o i 
   removing_next test = rw (add-one i, drop-cons s i 0, test, zeros_after a b (get_or s i 0)) refl
 
   pub removing_drop : dropped (zeros_in a b) (get_or s i 0) ≡ true → Removing s o₀ o (i + 1) n 0
-  removing_drop test = record { inside = omega arith; few = omega arith; written = rw (removing_next test) at l.written }
+  removing_drop test = record { few = omega arith; written = rw (removing_next test) at l.written }
 
   pub removing_keep : {o' : List ℕ} → dropped (zeros_in a b) (get_or s i 0) ≡ false → o' ≡ set o n (get_or s i 0) → Removing s o₀ o' (i + 1) (n + 1) (zeros_in b (get_or s i 0))
-  removing_keep test stored = record { inside = omega arith; few = omega arith; written = written_byte (rw (removing_next test) at l.written) stored }
-
-  pub removing_room : dropped (zeros_in a b) (get_or s i 0) ≡ false → length (unstuff s) ≤ length o₀ → n < length o
-  removing_room test room = omega (arith, written_room l.written room, ap length (removing_next test))
+  removing_keep test stored = record { few = omega arith; written = written_byte (rw (removing_next test) at l.written) stored }
 
 pub removing_done : {s o₀ o : List ℕ} {i n z : ℕ} → Removing s o₀ o i n z → length s ≤ i
-    → (n ≡ length (unstuff s)) × (o ≡ sets o₀ 0 (unstuff s))
+    → record { counted : n ≡ length (unstuff s); stored : o ≡ sets o₀ 0 (unstuff s) }
 unfolding unstuff_behind
 removing_done {s} l h = written_all (rw (drop_of_length-le s h) at l.written)
 
 -- ── Adding ────────────────────────────────────────────────────────────
 -- before a turn, in the same letters
 pub record Adding (s o₀ o : List ℕ) (i n z : ℕ) : Type 0 where
-  pub inside : i ≤ length s
   pub few : n ≤ 2 * i
   pub written : Written (stuff s) o₀ (stuff_behind z (drop i s)) o n
 
 pub adding_start : (s o : List ℕ) → Adding s o o 0 0 0
 unfolding stuff
-adding_start s o = record { inside = omega arith; few = omega arith; written = written_none (stuff s) o }
+adding_start s o = record { few = omega arith; written = written_none (stuff s) o }
 
 module _ {s o₀ o : List ℕ} {i n z : ℕ} (l : Adding s o₀ o i n z) (h : i < length s) where
   adding_next : stuff_behind z (drop i s) ≡ added z (get_or s i 0) ++ stuff_behind (zeros_added z (get_or s i 0)) (drop (i + 1) s)
@@ -124,19 +108,13 @@ module _ {s o₀ o : List ℕ} {i n z : ℕ} (l : Adding s o₀ o i n z) (h : i 
   adding_guarded test stored second counted =
       let step : stuff_behind z (drop i s) ≡ 3 ∷ get_or s i 0 ∷ stuff_behind (zeros_behind 0 (get_or s i 0)) (drop (i + 1) s) = rw test at adding_next in
       let two : n + 2 ≡ n + 1 + 1 = omega arith in
-      record { inside = omega arith; few = omega arith; written = rw (counted, two) (written_byte (written_byte (rw step at l.written) stored) second) }
+      record { few = omega arith; written = rw (counted, two) (written_byte (written_byte (rw step at l.written) stored) second) }
 
   pub adding_plain : {o' : List ℕ} {z' : ℕ} → guarded z (get_or s i 0) ≡ false → o' ≡ set o n (get_or s i 0) → z' ≡ zeros_behind z (get_or s i 0)
       → Adding s o₀ o' (i + 1) (n + 1) z'
   adding_plain test stored counted =
       let step : stuff_behind z (drop i s) ≡ get_or s i 0 ∷ stuff_behind (zeros_behind z (get_or s i 0)) (drop (i + 1) s) = rw test at adding_next in
-      record { inside = omega arith; few = omega arith; written = rw counted (written_byte (rw step at l.written) stored) }
-
-  adding_room : length (stuff s) ≤ length o₀ → n + length (added z (get_or s i 0)) ≤ length o
-  adding_room room =
-      let x : List ℕ = added z (get_or s i 0) in
-      let y : List ℕ = stuff_behind (zeros_added z (get_or s i 0)) (drop (i + 1) s) in
-      omega (arith, written_room l.written room, ap length adding_next, length-append x y)
+      record { few = omega arith; written = rw counted (written_byte (rw step at l.written) stored) }
 
 -- by the last two bytes, a and b
 module _ {s o₀ o : List ℕ} {i n : ℕ} (a b : ℕ) (l : Adding s o₀ o i n (zeros_in a b)) (h : i < length s) where
@@ -171,39 +149,17 @@ module _ {s o₀ o : List ℕ} {i n : ℕ} (a b : ℕ) (l : Adding s o₀ o i n 
           rw next
           (adding_plain l h (ap (λ (t : Bool). t && leb c 3) e) (second ∙ (λ j. set (first j) (here j) c) ∙ set-set o n 3 c) (ap (λ (k : ℕ). zeros_in k c) same ∙ zeros_after a b c))
 
-  -- there is room for both
-  pub large_room : length (stuff s) ≤ length o₀ → n < length o
-  large_room room = omega (arith, adding_room l h room, some (guarded (zeros_in a b) c)) where
-    some : (t : Bool) → 1 ≤ length {A = ℕ} (cond t (3 ∷ c ∷ []) (c ∷ []))
-    some true = omega arith
-    some false = omega arith
-
-  pub small_room : (m : ℕ) → c ≤ 3 → m ≡ more_in a b → length (stuff s) ≤ length o₀ → n + m < length o
-  small_room m small more room = omega (arith, adding_room l h room, some (leb 2 (zeros_in a b)) (leb c 3) (le-leb c 3 small), more) where
-    some : (t u : Bool) → u ≡ true → length {A = ℕ} (cond (t && u) (3 ∷ c ∷ []) (c ∷ [])) ≡ 1 + cond t 1 0
-    some true u e = rw e refl
-    some false u e = refl
-
 module _ {s o₀ o : List ℕ} {i n : ℕ} (a b : ℕ) (l : Adding s o₀ o i n (zeros_in a b)) (h : length s ≤ i) where
   ending : {t : Bool} → leb 2 (zeros_in a b) ≡ t → Written (stuff s) o₀ (cond t (3 ∷ []) []) o n
   unfolding stuff_behind
   ending test = rw (drop_of_length-le s h, test) at l.written
 
   module _ (m : ℕ) (more : m ≡ more_in a b) where
-    pub adding_last : m ≡ 1 → (n + 1 ≡ length (stuff s)) × (set o n 3 ≡ sets o₀ 0 (stuff s))
-    adding_last one = written_all (written_byte (ending (more_one more one)) refl)
+    pub adding_last : {o' : List ℕ} → m ≡ 1 → o' ≡ set o n 3 → record { counted : n + 1 ≡ length (stuff s); stored : o' ≡ sets o₀ 0 (stuff s) }
+    adding_last one stored = written_all (written_byte (ending (more_one more one)) stored)
 
-    pub last_room : m ≡ 1 → length (stuff s) ≤ length o₀ → n < length o
-    last_room one room = omega (arith, written_room (ending (more_one more one)) room)
-
-    pub adding_done : (m ≡ 1 → ⊥) → (n ≡ length (stuff s)) × (o ≡ sets o₀ 0 (stuff s))
+    pub adding_done : (m ≡ 1 → ⊥) → record { counted : n ≡ length (stuff s); stored : o ≡ sets o₀ 0 (stuff s) }
     adding_done other = written_all (ending (more_none more other))
-
-    pub adding_counted : n + m ≡ length (stuff s)
-    adding_counted = go (leb 2 (zeros_in a b)) refl where
-      go : (t : Bool) → leb 2 (zeros_in a b) ≡ t → n + m ≡ length (stuff s)
-      go true e = ap (λ (k : ℕ). n + k) (more ∙ ap (λ (t : Bool). cond t 1 0) e) ∙ (ending e).total
-      go false e = ap (λ (k : ℕ). n + k) (more ∙ ap (λ (t : Bool). cond t 1 0) e) ∙ (ending e).total
 
 -- ── Room ──────────────────────────────────────────────────────────────
 pub room_removed : (s : List ℕ) {room : ℕ} → length s ≤ room → true ≡ leb (length (unstuff s)) room
@@ -217,14 +173,22 @@ module _ (s : List ℕ) {room : ℕ} where
   room_added h k = sym (le-leb (length (stuff s)) room (omega (arith, stuff_length s)))
 
 -- ── A lent output ─────────────────────────────────────────────────────
-module _ {t out : List ℕ} where
-  pub lends_done : {out' : List ℕ} {n : ℕ} → leb (length t) (length out) ≡ true → (n ≡ length t) × (out' ≡ sets out 0 t) → Lends t out (Done n) out'
-  unfolding lent output_after
-  lends_done test (size, filled) =
+module _ (t out : List ℕ) where
+  pub lends_done : {n : ℕ} → leb (length t) (length out) ≡ true → n ≡ length t → success n ≡ lent t out
+  unfolding lent
+  lends_done test size = rw (test, size)
+
+  pub left_done : {out' : List ℕ} → leb (length t) (length out) ≡ true → out' ≡ sets out 0 t → out' ≡ output_after t out
+  unfolding output_after
+  left_done test filled =
       let front : sets out 0 t ≡ t ++ drop (0 + length t) out = sets-eq t out 0 (omega (arith, leb-true (length t) (length out) test)) in
       let start : 0 + length t ≡ length t = omega arith in
-      record { answered = rw (test, size); left = rw test (filled ∙ front ∙ rw start) }
+      rw test (filled ∙ front ∙ rw start)
 
-  pub lends_refused : leb (length t) (length out) ≡ false → Lends t out (Refused output_too_short) out
-  unfolding lent output_after
-  lends_refused test = record { answered = rw test; left = rw test }
+  pub lends_refused : leb (length t) (length out) ≡ false → refusal output_too_short ≡ lent t out
+  unfolding lent
+  lends_refused test = rw test
+
+  pub left_refused : leb (length t) (length out) ≡ false → out ≡ output_after t out
+  unfolding output_after
+  left_refused test = rw test

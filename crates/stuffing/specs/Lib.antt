@@ -1,4 +1,3 @@
 pub mod Stuffing
 pub mod Machine
 pub mod Laws
-pub mod Answers

@@ -3,19 +3,12 @@
 
 ghost use Rattle.std.specs.Prelude.{◌≤◌, ◌≡◌, leb, length, set};
 ghost use Rattle.std.proofs.lemmas.List.Edits.{sets};
+ghost use Rattle.refusals.specs.Lent.{lent, output_after};
+ghost use Rattle.refusals.specs.Refusals.{answer_of};
 ghost use Rattle.stuffing.specs.Stuffing.{guarded, zeros_behind, unstuff, stuff};
 ghost use Rattle.stuffing.specs.Machine.{dropped, zeros_in, more_in};
-ghost use Rattle.stuffing.specs.Answers.{Lends};
 
-use refusals::OUTPUT_TOO_SHORT;
-
-// What adding or removing says. A refusal leaves the output as it was.
-#[derive(Clone, Copy)]
-pub enum Stuffed {
-    // so many bytes were written; those behind them are as before
-    Done(usize),
-    Refused(u32),
-}
+use refusals::Refusal;
 
 // Stores a byte where the output has such a place.
 pub fn store(out: &mut [u8], at: usize, b: u8)
@@ -40,7 +33,7 @@ pub fn zeros_behind(zeros: u32, b: u8) -> u32
 pub fn is_guarded(zeros: u32, b: u8) -> bool
     ensures { result ≡ guarded zeros b }
 {
-    if zeros >= 2 { b <= 3 } else { false }
+    zeros >= 2 && b <= 3
 }
 
 // The loops know the zeros behind them by two numbers, the byte last taken and the one before it. Where a 03 was dropped or
@@ -50,92 +43,93 @@ pub fn is_guarded(zeros: u32, b: u8) -> bool
 fn is_dropped(before: u8, last: u8, b: u8) -> bool
     ensures { result ≡ dropped (zeros_in before last) b }
 {
-    if b != 3 {
-        return false;
+    before == 0 && last == 0 && b == 3
+}
+
+// Stores what removing leaves as far as there is room for it, and counts it in any case.
+fn remove(ebsp: &[u8], out: &mut [u8]) -> usize
+    ensures counted { result ≡ length (unstuff ebsp.now) }
+    ensures stored { out.new ≡ sets out.old 0 (unstuff ebsp.now) }
+{
+    let mut n = 0;
+    let mut before = 1;
+    let mut last = 1;
+    for &b in ebsp {
+        if is_dropped(before, last, b) {
+            last = 3;
+            continue;
+        }
+        store(out, n, b);
+        n += 1;
+        before = last;
+        last = b;
     }
-    if last != 0 {
-        return false;
-    }
-    before == 0
+    n
 }
 
 // The length of what removing leaves.
 pub fn rbsp_length(ebsp: &[u8]) -> usize
     ensures { result ≡ length (unstuff ebsp.now) }
 {
-    let mut i = 0;
-    let mut n = 0;
-    let mut before = 1;
-    let mut last = 1;
-    while i < ebsp.len() {
-        let b = ebsp[i];
-        i += 1;
-        if is_dropped(before, last, b) {
-            last = 1;
-        } else {
-            n += 1;
-            before = last;
-            last = b;
-        }
-    }
-    n
-}
-
-// Stores what removing leaves, where there is room for it, and counts it.
-fn remove(ebsp: &[u8], out: &mut [u8]) -> usize
-    requires { length (unstuff ebsp.now) ≤ length out.old }
-    ensures { (result ≡ length (unstuff ebsp.now)) × (out.new ≡ sets out.old 0 (unstuff ebsp.now)) }
-{
-    let mut i = 0;
-    let mut n = 0;
-    let mut before = 1;
-    let mut last = 1;
-    while i < ebsp.len() {
-        let b = ebsp[i];
-        i += 1;
-        if is_dropped(before, last, b) {
-            last = 3;
-        } else {
-            out[n] = b;
-            n += 1;
-            before = last;
-            last = b;
-        }
-    }
-    n
+    remove(ebsp, &mut [])
 }
 
 // Whether what removing leaves has room.
 fn has_room_removed(ebsp: &[u8], room: usize) -> bool
     ensures { result ≡ leb (length (unstuff ebsp.now)) room }
 {
-    if ebsp.len() <= room {
-        return true;
-    }
-    rbsp_length(ebsp) <= room
+    ebsp.len() <= room || rbsp_length(ebsp) <= room
 }
 
-// Removes the stuffing of a payload into a lent output.
-pub fn ebsp_to_rbsp(ebsp: &[u8], rbsp: &mut [u8]) -> Stuffed
-    ensures { Lends (unstuff ebsp.now) rbsp.old result rbsp.new }
+// Removes the stuffing of a payload into a lent output: `Ok` says how many bytes were written; those behind them are as before.
+// A refusal leaves the output as it was.
+pub fn ebsp_to_rbsp(ebsp: &[u8], rbsp: &mut [u8]) -> Result<usize, Refusal>
+    ensures answered { answer_of result ≡ lent (unstuff ebsp.now) rbsp.old }
+    ensures left { rbsp.new ≡ output_after (unstuff ebsp.now) rbsp.old }
 {
     if has_room_removed(ebsp, rbsp.len()) {
-        Stuffed::Done(remove(ebsp, rbsp))
+        Ok(remove(ebsp, rbsp))
     } else {
-        Stuffed::Refused(OUTPUT_TOO_SHORT)
+        Err(Refusal::OutputTooShort)
     }
 }
 
 // How many bytes a byte up to 03 behind two others gets before it.
 fn more_before(before: usize, last: usize) -> usize
-    ensures { (result ≡ more_in before last) × (result ≤ 1) }
+    ensures more { result ≡ more_in before last }
+    ensures one { result ≤ 1 }
 {
-    if last != 0 {
-        0
-    } else if before != 0 {
-        0
+    if before == 0 && last == 0 { 1 } else { 0 }
+}
+
+// Stores what adding makes as far as there is room for it, and counts it in any case. Before a byte up to 03 a 03 is stored;
+// the byte takes its place, or the next one.
+fn add(rbsp: &[u8], out: &mut [u8]) -> usize
+    ensures counted { result ≡ length (stuff rbsp.now) }
+    ensures stored { out.new ≡ sets out.old 0 (stuff rbsp.now) }
+{
+    let mut n = 0;
+    let mut before: usize = 1;
+    let mut last: usize = 1;
+    for &b in rbsp {
+        if b > 3 {
+            store(out, n, b);
+            n += 1;
+            last = 4;
+            continue;
+        }
+        let more = more_before(before, last);
+        store(out, n, 3);
+        store(out, n + more, b);
+        n += 1 + more;
+        before = last + more;
+        last = b as usize;
+    }
+    if more_before(before, last) == 1 {
+        store(out, n, 3);
+        n + 1
     } else {
-        1
+        n
     }
 }
 
@@ -143,57 +137,7 @@ fn more_before(before: usize, last: usize) -> usize
 fn ebsp_length(rbsp: &[u8]) -> usize
     ensures { result ≡ length (stuff rbsp.now) }
 {
-    let mut i = 0;
-    let mut n = 0;
-    let mut before: usize = 1;
-    let mut last: usize = 1;
-    while i < rbsp.len() {
-        let b = rbsp[i];
-        i += 1;
-        if b > 3 {
-            n += 1;
-            last = 4;
-        } else {
-            let more = more_before(before, last);
-            n += 1 + more;
-            before = last + more;
-            last = b as usize;
-        }
-    }
-    n + more_before(before, last)
-}
-
-// Stores what adding makes, where there is room for it, and counts it.
-fn add(rbsp: &[u8], out: &mut [u8]) -> usize
-    requires { length (stuff rbsp.now) ≤ length out.old }
-    ensures { (result ≡ length (stuff rbsp.now)) × (out.new ≡ sets out.old 0 (stuff rbsp.now)) }
-{
-    let mut i = 0;
-    let mut n = 0;
-    let mut before: usize = 1;
-    let mut last: usize = 1;
-    while i < rbsp.len() {
-        let b = rbsp[i];
-        i += 1;
-        if b > 3 {
-            out[n] = b;
-            n += 1;
-            last = 4;
-        } else {
-            let more = more_before(before, last);
-            out[n] = 3;
-            out[n + more] = b;
-            n += 1 + more;
-            before = last + more;
-            last = b as usize;
-        }
-    }
-    if more_before(before, last) == 1 {
-        out[n] = 3;
-        n + 1
-    } else {
-        n
-    }
+    add(rbsp, &mut [])
 }
 
 // Whether what adding makes has room: at most one byte is added for two.
@@ -209,13 +153,15 @@ fn has_room_added(rbsp: &[u8], room: usize) -> bool
     ebsp_length(rbsp) <= room
 }
 
-// Adds stuffing to an RBSP into a lent output.
-pub fn rbsp_to_ebsp(rbsp: &[u8], ebsp: &mut [u8]) -> Stuffed
-    ensures { Lends (stuff rbsp.now) ebsp.old result ebsp.new }
+// Adds stuffing to an RBSP into a lent output: `Ok` says how many bytes were written; those behind them are as before. A refusal
+// leaves the output as it was.
+pub fn rbsp_to_ebsp(rbsp: &[u8], ebsp: &mut [u8]) -> Result<usize, Refusal>
+    ensures answered { answer_of result ≡ lent (stuff rbsp.now) ebsp.old }
+    ensures left { ebsp.new ≡ output_after (stuff rbsp.now) ebsp.old }
 {
     if has_room_added(rbsp, ebsp.len()) {
-        Stuffed::Done(add(rbsp, ebsp))
+        Ok(add(rbsp, ebsp))
     } else {
-        Stuffed::Refused(OUTPUT_TOO_SHORT)
+        Err(Refusal::OutputTooShort)
     }
 }

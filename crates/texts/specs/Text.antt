@@ -1,6 +1,6 @@
 -- Text that is put into a lent slice from a place on, as much of it as there is room for.
-use Rattle.std.specs.Prelude.{ℕ, suc, ◌+◌, ◌-◌, ◌≤◌, ◌<◌, min, ◌≡◌, refl, List, [], ◌∷◌, ◌++◌, Bool, true, false, leb, length, set, take, drop, get_or}
-use Rattle.std.proofs.Common.{sym, ap, ◌∙◌, subst, add-zero, add-one, arith, leb-true, leb-false, length-set, length-take, length-append, take-append-drop, take-suc, take_all}
+use Rattle.std.specs.Prelude.{ℕ, suc, ◌+◌, ◌-◌, ◌≤◌, ◌<◌, min, ◌≡◌, refl, List, [], ◌∷◌, ◌++◌, Bool, true, false, leb, length, set, take, get_or}
+use Rattle.std.proofs.Common.{sym, ap, ◌∙◌, subst, add-one, arith, leb-true, leb-false, length-append, take-suc}
 use Rattle.std.proofs.lemmas.List.Edits.{sets}
 use Rattle.std.proofs.Math.Seq.{length-sets, set_out}
 use Rattle.lists.specs.Stored.{sets_append, overlaid, stored_whole}
@@ -49,50 +49,18 @@ puts_then {x} {y} {at} {next} {next'} {text} {text₁} {text₂} p q =
         sets_past y text₁ next (omega (arith, h, same, p.place)) ∙ p.stored ∙ sym (sets_past y (sets text at x) (at + length x) (omega (arith, h, length-sets text at x)))
 
 -- ── Byte by byte ──────────────────────────────────────────────────────
--- the first i bytes of x are put
-pub record Putting (x : List ℕ) (at : ℕ) (text text' : List ℕ) (next i : ℕ) : Type 0 where
-  pub so_far : text' ≡ sets text at (take i x)
-  pub place : next ≡ at + i
-  pub passed : i ≤ length x
-  pub inside : i ≤ length text - at
-  pub same_length : length text' ≡ length text
+puts_byte : (b at : ℕ) (text : List ℕ) → at < length text → Puts (b ∷ []) at (at + 1) text (set text at b)
+puts_byte b at text h = record { stored = refl; place = omega (arith, h) }
 
-pub putting_start : (x : List ℕ) (at : ℕ) (text : List ℕ) → Putting x at text text at 0
-putting_start x at text = record { so_far = refl; place = sym (add-zero at); passed = omega arith; inside = omega arith; same_length = refl }
+puts_past : (x : List ℕ) (at : ℕ) (text : List ℕ) → length text ≤ at → Puts x at at text text
+puts_past x at text h = record { stored = sym (sets_past x text at h); place = omega (arith, h) }
 
-module _ {x : List ℕ} {at : ℕ} {text text' : List ℕ} {next i : ℕ} (p : Putting x at text text' next i) where
-  first_length : i ≤ length x → length (take i x) ≡ i
-  first_length h = length-take i x ∙ omega (arith, h)
+-- one byte more of x
+one_more : (x : List ℕ) (i : ℕ) → i < length x → take i x ++ (get_or x i 0 ∷ []) ≡ take (i + 1) x
+one_more x i h = sym (take-suc x i 0 h) ∙ ap (λ (k : ℕ). take k x) (sym (add-one i))
 
-  pub putting_turn : i < length x → next < length text' → Putting x at text (set text' next (get_or x i 0)) (next + 1) (i + 1)
-  putting_turn h r =
-      record {
-        so_far =
-            ap (λ (l : List ℕ). set l next (get_or x i 0)) p.so_far
-            ∙ ap (λ (k : ℕ). set (sets text at (take i x)) k (get_or x i 0)) (p.place ∙ ap (λ (k : ℕ). at + k) (sym (first_length p.passed)))
-            ∙ sym (sets_append text at (take i x) (get_or x i 0 ∷ []))
-            ∙ ap (sets text at) (sym (take-suc x i 0 h) ∙ ap (λ (k : ℕ). take k x) (sym (add-one i)));
-        place = omega (arith, p.place);
-        passed = omega (arith, h);
-        inside = omega (arith, r, p.place, p.same_length);
-        same_length = length-set text' next (get_or x i 0) ∙ p.same_length;
-      }
+pub puts_more : (x : List ℕ) (i : ℕ) {at next : ℕ} {text text' : List ℕ} → Puts (take i x) at next text text' → i < length x → next < length text' → Puts (take (i + 1) x) at (next + 1) text (set text' next (get_or x i 0))
+puts_more x i {at} {next} {text} {text'} p h r = puts_same (one_more x i h) (puts_then p (puts_byte (get_or x i 0) next text' r))
 
-  -- the end of the text
-  pub putting_stop : i < length x → length text' ≤ next → Puts x at next text text'
-  putting_stop h r =
-      record {
-        stored = p.so_far ∙ sym (ap (sets text at) (sym (take-append-drop i x)) ∙ sets_append text at (take i x) (drop i x) ∙ sets_past (drop i x) (sets text at (take i x)) (at + length (take i x)) past);
-        place = omega (arith, h, r, p.place, p.same_length, p.inside);
-      }
-    where
-      past : length (sets text at (take i x)) ≤ at + length (take i x)
-      past = omega (arith, length-sets text at (take i x), first_length p.passed, r, p.place, p.same_length)
-
-  -- the end of the bytes
-  pub putting_done : length x ≤ i → Puts x at next text text'
-  putting_done h =
-      record {
-        stored = p.so_far ∙ ap (sets text at) (take_all i x (omega (arith, h)));
-        place = omega (arith, h, p.place, p.passed, p.inside);
-      }
+pub puts_full : (x : List ℕ) (i : ℕ) {at next : ℕ} {text text' : List ℕ} → Puts (take i x) at next text text' → i < length x → length text' ≤ next → Puts (take (i + 1) x) at next text text'
+puts_full x i {at} {next} {text} {text'} p h r = puts_same (one_more x i h) (puts_then p (puts_past (get_or x i 0 ∷ []) next text' r))

@@ -1,20 +1,42 @@
 // Text put into a lent slice from a place on: as much as there is room for, and the place behind it.
 #![tactic(auto)]
 
-ghost use Rattle.texts.specs.Text.{Puts};
+ghost use Rattle.std.specs.Prelude.{◌≡◌, take};
+ghost use Rattle.texts.specs.Adds.{Adds};
 
-pub fn put(text: &mut [u8], at: usize, bytes: &[u8]) -> usize
-    ensures { Puts bytes.now at result text.old text.new }
-{
-    let mut next = at;
-    let mut i = 0;
-    while i < bytes.len() {
-        if text.len() <= next {
-            return next;
-        }
-        text[next] = bytes[i];
-        next += 1;
-        i += 1;
+// A lent slice, and the place behind the text that stands in it so far.
+#[derive(Drop)]
+pub struct Text<'a> {
+    pub bytes: &'a mut [u8],
+    pub place: usize,
+}
+
+impl<'a> Text<'a> {
+    // Text that goes on from a place; past the end of the slice nothing is stored.
+    pub fn at(bytes: &'a mut [u8], place: usize) -> Text<'a>
+        ensures same_reference { result.bytes.ghost_name ≡ bytes.entry.ghost_name }
+        ensures bytes { result.bytes.now ≡ bytes.old }
+        ensures place { result.place ≡ place }
+    {
+        Text { bytes, place }
     }
-    next
+
+    // The bytes before the place.
+    pub fn so_far(&self) -> &[u8]
+        ensures { result.now ≡ take self.now.place self.now.bytes.now }
+    {
+        self.bytes.get(..self.place).unwrap_or(self.bytes)
+    }
+
+    // Bytes behind what stands there, as many as there is room for.
+    pub fn put(&mut self, bytes: &[u8])
+        ensures { Adds bytes.now self.old self.new }
+    {
+        for byte in bytes {
+            if self.place < self.bytes.len() {
+                self.bytes[self.place] = *byte;
+                self.place += 1;
+            }
+        }
+    }
 }

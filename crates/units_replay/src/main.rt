@@ -1,47 +1,20 @@
 // Replays recorded answers of the reader to whole units, and prints how many there are and how many differ.
 #![tactic(auto)]
 
-mod buffers;
 mod unit;
 
-use replay_list::{Next, Replayed};
-use replay_parts::first;
+use replay_list::Replayer;
 
-// More records than any list has.
-const MOST_RECORDS: u64 = 1_000_000;
+// The reader of whole units.
+struct Units;
 
-// Reads a record and replays it. One that is cut off or too long counts as a case that differs.
-fn replay_record(count: u64) -> Replayed {
-    let mut content = [0u8; 16384];
-    match replay_list::read_record(&mut content, count) {
-        Next::Case(_, length) => replay_list::case(unit::is_same(first(&content, length))),
-        Next::Broken => Replayed::Different,
-        Next::Kind => Replayed::Kind,
-        Next::End => Replayed::End,
+impl Replayer for Units {
+    fn is_same(&self, _tag: u8, content: &[u8]) -> bool {
+        unit::is_same(content)
     }
 }
 
 fn main() {
-    let mut records = 0;
-    let mut count = 0;
-    let mut different = 0;
-    while records < MOST_RECORDS {
-        records += 1;
-        match replay_record(count) {
-            Replayed::Same => {
-                count += 1;
-            }
-            Replayed::Different => {
-                count += 1;
-                different += 1;
-            }
-            Replayed::Kind => {
-                count = 0;
-            }
-            Replayed::End => {
-                replay_list::print_count(b"different", different);
-                return;
-            }
-        }
-    }
+    let mut content = [0u8; 16384];
+    replay_list::replay(&Units, &mut content);
 }

@@ -1,146 +1,141 @@
 // A case: number, length, bits used, lengths of the work buffer and of the record, how often the last byte is there
 // again, the unit, the RBSP, and the record's numbers. The RBSP and the numbers are there where they are stored.
-ghost use Rattle.std.specs.Prelude.{◌<◌};
+use refusals::{NoRefusal, Refusal};
+use replay_numbers::{Content, fill_pattern};
+use vps_reader::{NotParsed, Parsed, parse_vps};
 
-use crate::buffers::{fill_record, fill_unit, fill_work, is_record_same, is_work_same};
-use refusals::RECORD_TOO_SHORT;
-use replay_numbers::{four_bytes, two_bytes};
-use replay_parts::{behind, byte_at, first};
-use vps_reader::{Parsed, parse_vps};
+// The longest unit and work buffer, and the longest record.
+const MOST_BYTES: usize = 65792;
 
-// What the reader is to say.
+const MOST_NUMBERS: usize = 8192;
+
+// The answer that is recorded: a record's length and the bits used, or a refusal with the length that the record needs.
+fn read_answer(content: &mut Content) -> Result<Result<Parsed, NotParsed>, NoRefusal> {
+    let number = u32::from(content.byte());
+    let numbers = content.four_bytes() as usize;
+    let bits_used = content.four_bytes() as usize;
+    if number == 0 {
+        return Ok(Ok(Parsed { numbers, bits_used }));
+    }
+    Ok(Err(match Refusal::try_from(number)? {
+        Refusal::RecordTooShort => NotParsed::RecordTooShort(numbers),
+        refusal => NotParsed::Refused(refusal),
+    }))
+}
+
+// A case, as it is recorded.
 #[derive(Clone, Copy)]
-struct Expected {
-    number: u32,
-    length: usize,
-    bits_used: usize,
+struct Case<'a> {
+    answer: Result<Parsed, NotParsed>,
+    // the lengths of the buffers
+    work: usize,
+    record: usize,
+    // how often the last byte of the unit and of the RBSP is there again
+    again: u32,
+    unit: &'a [u8],
+    rbsp: &'a [u8],
+    numbers: Content<'a>,
 }
 
-fn expected_of(content: &[u8]) -> Expected {
-    Expected {
-        number: byte_at(content, 0),
-        length: four_bytes(behind(content, 1)) as usize,
-        bits_used: four_bytes(behind(content, 5)) as usize,
+impl<'a> Case<'a> {
+    fn read(content: &'a [u8]) -> Result<Case<'a>, NoRefusal> {
+        let mut content = Content { rest: content };
+        let answer = read_answer(&mut content)?;
+        let work = content.four_bytes() as usize;
+        let record = content.four_bytes() as usize;
+        let again = content.four_bytes();
+        let unit = read_bytes(&mut content);
+        let rbsp = read_bytes(&mut content);
+        Ok(Case {
+            answer,
+            work,
+            record,
+            again,
+            unit,
+            rbsp,
+            numbers: content,
+        })
     }
-}
 
-fn is_answer(answer: Parsed, expected: Expected) -> bool {
-    match answer {
-        Parsed::Accepted(length, bits_used) => {
-            if expected.number != 0 {
-                return false;
-            }
-            if length != expected.length {
-                return false;
-            }
-            bits_used == expected.bits_used
+    // The length of what is stored of the RBSP: nothing where none is recorded.
+    fn rbsp_length(&self) -> usize {
+        if self.rbsp.is_empty() {
+            0
+        } else {
+            self.rbsp.len() + self.again as usize
         }
-        Parsed::TooShort(needed) => {
-            if expected.number != RECORD_TOO_SHORT {
-                return false;
-            }
-            needed == expected.length
+    }
+
+    // Whether the work buffer begins with the RBSP and is as before behind it.
+    fn is_work_same(&self, work: &[u8]) -> bool {
+        let length = self.rbsp_length();
+        let mut expected = [0; MOST_BYTES];
+        if expected.len() < work.len() || work.len() < length {
+            return false;
         }
-        Parsed::Refused(number) => {
-            if number == 0 {
-                return false;
-            }
-            if number == RECORD_TOO_SHORT {
-                return false;
-            }
-            number == expected.number
+        let expected = &mut expected[..work.len()];
+        fill_pattern(expected);
+        put_repeated(self.rbsp, &mut expected[..length]);
+        work == &*expected
+    }
+
+    // Whether the record begins with the numbers and is as before behind them.
+    fn is_record_same(&self, record: &[u32]) -> bool {
+        let length = self.answer.map_or(0, |parsed| parsed.numbers);
+        let mut expected = [0; MOST_NUMBERS];
+        if expected.len() < record.len() || record.len() < length {
+            return false;
+        }
+        let expected = &mut expected[..record.len()];
+        fill_pattern(expected);
+        let mut numbers = self.numbers;
+        for number in expected[..length].iter_mut() {
+            *number = numbers.number();
+        }
+        record == &*expected
+    }
+
+    // Whether the reader's answer and both buffers are as recorded.
+    fn is_call_same(&self, unit: &mut [u8], work: &mut [u8], record: &mut [u32]) -> bool {
+        put_repeated(self.unit, unit);
+        fill_pattern(work);
+        fill_pattern(record);
+        let answer = parse_vps(unit, work, record);
+        answer == self.answer && self.is_work_same(work) && self.is_record_same(record)
+    }
+
+    // Replays the case on buffers of just the lengths recorded.
+    fn is_same(&self) -> bool {
+        let mut unit = [0; MOST_BYTES];
+        let mut work = [0; MOST_BYTES];
+        let mut record = [0; MOST_NUMBERS];
+        let unit_length = self.unit.len() + self.again as usize;
+        match (
+            unit.get_mut(..unit_length),
+            work.get_mut(..self.work),
+            record.get_mut(..self.record),
+        ) {
+            (Some(unit), Some(work), Some(record)) => self.is_call_same(unit, work, record),
+            _ => false,
         }
     }
 }
 
-// The length of the unit's bytes before those that are there again.
-fn unit_length(content: &[u8]) -> usize
-    ensures { result < 65536 }
-{
-    two_bytes(behind(content, 21)) as usize
+// Bytes, with how many there are in two bytes before them.
+fn read_bytes<'a>(content: &mut Content<'a>) -> &'a [u8] {
+    let length = content.two_bytes() as usize;
+    content.bytes(length)
 }
 
-// How often the last byte is there again.
-fn again(content: &[u8]) -> usize
-    ensures { result < 4294967296 }
-{
-    four_bytes(behind(content, 17)) as usize
-}
-
-fn unit_of(content: &[u8]) -> &[u8] {
-    first(behind(content, 23), unit_length(content))
-}
-
-// The RBSP with its length, and the record's numbers.
-fn behind_unit(content: &[u8]) -> &[u8] {
-    behind(content, 23 + unit_length(content))
-}
-
-// The length of what is stored of an RBSP: nothing where none is recorded.
-fn stored_length(length: usize, again: usize) -> usize
-    requires { (length < 65536) × (again < 4294967296) }
-{
-    if length == 0 { 0 } else { length + again }
-}
-
-// How many numbers are stored: none with a refusal.
-fn record_length(expected: Expected) -> usize {
-    if expected.number == 0 {
-        expected.length
-    } else {
-        0
+// Puts bytes into the start of a buffer, and their last one again into what is behind it.
+fn put_repeated(bytes: &[u8], buffer: &mut [u8]) {
+    buffer.fill(bytes.last().copied().unwrap_or(0));
+    if let Some(start) = buffer.get_mut(..bytes.len()) {
+        start.copy_from_slice(bytes);
     }
 }
 
-// Whether both buffers are as recorded.
-fn are_buffers_same(content: &[u8], expected: Expected, work: &[u8], record: &[u32]) -> bool {
-    let parts = behind_unit(content);
-    let length = two_bytes(parts) as usize;
-    let rbsp = first(behind(parts, 2), length);
-    if !is_work_same(work, rbsp, stored_length(length, again(content))) {
-        return false;
-    }
-    is_record_same(record, behind(parts, 2 + length), record_length(expected))
-}
-
-// Whether the reader's answer and both buffers are as recorded.
-fn is_call_same(content: &[u8], unit: &[u8], work: &mut [u8], record: &mut [u32]) -> bool {
-    fill_work(work);
-    fill_record(record);
-    let answer = parse_vps(unit, work, record);
-    let expected = expected_of(content);
-    if !is_answer(answer, expected) {
-        return false;
-    }
-    are_buffers_same(content, expected, work, record)
-}
-
-fn is_unit_same(content: &[u8], unit: &mut [u8], work: &mut [u8], record: &mut [u32]) -> bool {
-    fill_unit(unit_of(content), unit);
-    is_call_same(content, unit, work, record)
-}
-
-// Replays a case on buffers of just the lengths recorded.
+// Whether a case is as it is recorded; one with a number that no refusal has is not.
 pub fn is_same(content: &[u8]) -> bool {
-    let mut unit = [0u8; 65792];
-    let mut work = [0u8; 65792];
-    let mut record = [0u32; 8192];
-    let unit_end = unit_length(content) + again(content);
-    let work_end = four_bytes(behind(content, 9)) as usize;
-    let record_end = four_bytes(behind(content, 13)) as usize;
-    if unit_end > 65792 {
-        return false;
-    }
-    if work_end > 65792 {
-        return false;
-    }
-    if record_end > 8192 {
-        return false;
-    }
-    is_unit_same(
-        content,
-        &mut unit[0..unit_end],
-        &mut work[0..work_end],
-        &mut record[0..record_end],
-    )
+    Case::read(content).is_ok_and(|case| case.is_same())
 }

@@ -6,9 +6,9 @@ ghost use Rattle.lists.specs.Same.{same};
 ghost use Rattle.vps_definition.specs.Writing.{write_record};
 ghost use Rattle.vps_back.specs.Back.{said, written_back, back};
 
-use refusals::RECORD_TOO_SHORT;
-use vps_reader::{Parsed, parse_vps};
-use vps_writer::{Written, write_vps_nal};
+use refusals::Refusal;
+use vps_reader::parse_vps;
+use vps_writer::write_vps_nal;
 
 // Standard input and output.
 const STDIN_FILENO: i32 = 0;
@@ -24,32 +24,27 @@ const RECORD_NUMBERS: usize = 8192;
 // The bytes of the output: a header, and an RBSP of as many bytes as the unit's, stuffed.
 const OUTPUT_BYTES: usize = 6146;
 
-// What is said of a unit.
+// What a unit comes back as: so many bytes were written, and they are the unit's, or not.
 #[derive(Clone, Copy)]
-enum Back {
-    // the reader's refusal
-    NotRead(u32),
-    // the writer's refusal
-    NotWritten(u32),
-    // so many bytes were written; they are the unit's, or not
-    Returned(usize, bool),
+struct Back {
+    count: usize,
+    same: bool,
 }
 
-// Whether two byte strings are the same.
+// Why a unit doesn't come back.
+#[derive(Clone, Copy)]
+enum NotBack {
+    // the reader's refusal
+    NotRead(Refusal),
+    // the writer's refusal
+    NotWritten(Refusal),
+}
+
+// Whether two byte strings are the same, byte by byte.
 fn is_same(a: &[u8], b: &[u8]) -> bool
     ensures { result ≡ same a.now b.now }
 {
-    if a.len() != b.len() {
-        return false;
-    }
-    let mut i = 0;
-    while i < a.len() {
-        if a[i] != b[i] {
-            return false;
-        }
-        i += 1;
-    }
-    true
+    a == b
 }
 
 // The first n numbers, or all where there are fewer.
@@ -64,26 +59,28 @@ fn first(record: &[u32], n: usize) -> &[u32]
 }
 
 // A record, written and compared with the unit.
-fn written_back(unit: &[u8], record: &[u32]) -> Back
+fn written_back(unit: &[u8], record: &[u32]) -> Result<Back, NotBack>
     ensures { said result ≡ written_back unit.now (write_record «record».now) }
 {
     let mut output = [0u8; OUTPUT_BYTES];
     match write_vps_nal(record, &mut output) {
-        Written::Done(n) => Back::Returned(n, is_same(&output[0..n], unit)),
-        Written::Refused(n) => Back::NotWritten(n),
+        Ok(count) => Ok(Back {
+            count,
+            same: is_same(&output[0..count], unit),
+        }),
+        Err(refusal) => Err(NotBack::NotWritten(refusal)),
     }
 }
 
 // A unit, read, written and compared.
-fn way_back(unit: &[u8]) -> Back
+fn way_back(unit: &[u8]) -> Result<Back, NotBack>
     ensures { said result ≡ back unit.now }
 {
     let mut work = [0u8; UNIT_BYTES];
     let mut record = [0u32; RECORD_NUMBERS];
     match parse_vps(unit, &mut work, &mut record) {
-        Parsed::Accepted(length, _) => written_back(unit, first(&record, length)),
-        Parsed::TooShort(_) => Back::NotRead(RECORD_TOO_SHORT),
-        Parsed::Refused(n) => Back::NotRead(n),
+        Ok(parsed) => written_back(unit, first(&record, parsed.numbers)),
+        Err(not_parsed) => Err(NotBack::NotRead(not_parsed.refusal())),
     }
 }
 
@@ -94,13 +91,13 @@ fn print_number(word: &[u8], number: u64) {
     io::write_all(STDOUT_FILENO, b"\n");
 }
 
-fn print_back(answer: Back) {
+fn print_back(answer: Result<Back, NotBack>) {
     match answer {
-        Back::NotRead(n) => print_number(b"refused ", n as u64),
-        Back::NotWritten(n) => print_number(b"not written ", n as u64),
-        Back::Returned(n, alike) => {
-            print_number(b"written ", n as u64);
-            if alike {
+        Err(NotBack::NotRead(refusal)) => print_number(b"refused ", refusal.number() as u64),
+        Err(NotBack::NotWritten(refusal)) => print_number(b"not written ", refusal.number() as u64),
+        Ok(back) => {
+            print_number(b"written ", back.count as u64);
+            if back.same {
                 io::write_all(STDOUT_FILENO, b"same\n");
             } else {
                 io::write_all(STDOUT_FILENO, b"different\n");

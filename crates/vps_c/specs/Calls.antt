@@ -1,5 +1,5 @@
 -- Answers as numbers: what a call gives, and what it leaves where a reference points.
-use Rattle.std.specs.Prelude.{ℕ, ◌≡◌, refl, List, get_or}
+use Rattle.std.specs.Prelude.{ℕ, ◌≡◌, refl, List, get_or, Result, Ok, Err}
 use Rattle.std.proofs.Common.{sym, ap, ◌∙◌}
 use Rattle.refusals.specs.Answer.{Answer}
 use Rattle.refusals.specs.Answer.Answer.{success, refusal}
@@ -7,8 +7,11 @@ use Rattle.refusals.specs.Number.{record_too_short}
 use Rattle.vps_reader.specs.Parse.{Parse, parse_number, parse_values}
 use Rattle.vps_reader.specs.Parse as Reader
 use Rattle.vps_reader.specs.Answers.{parsed_answer, Gives}
-use Rattle.vps_reader.specs.declared.Parsed.{Parsed}
-use Rattle.vps_reader.specs.declared.Parsed.TheVariants.{Accepted, TooShort, Refused}
+use Rattle.refusals.specs.declared.refusal.Refusal.{Refusal}
+use Rattle.refusals.specs.Refusals.{number_of}
+use Rattle.vps_reader.specs.declared.parsed.Parsed.{Parsed}
+use Rattle.vps_reader.specs.declared.parsed.NotParsed.{NotParsed}
+use Rattle.vps_reader.specs.declared.parsed.NotParsed.TheVariants.{RecordTooShort, Refused}
 
 -- ── The reader's answers ──────────────────────────────────────────────
 -- what the length is then: the answer's first value, the record's length or the one that it needs; or the one before
@@ -27,7 +30,7 @@ pub record Parses (x : Reader.Parsed) (before-length before-bits k : ℕ) (work 
   pub long : length ≡ length_after x.answer before-length
   pub used : bits ≡ bits_after x.answer before-bits
 
-module _ {x : Reader.Parsed} {r : Parsed} {work lent : List ℕ} (G : Gives x r work lent) {before-length before-bits : ℕ} where
+module _ {x : Reader.Parsed} {r : Result Parsed NotParsed} {work lent : List ℕ} (G : Gives x r work lent) {before-length before-bits : ℕ} where
   parses_as : {k length bits : ℕ} {a : Parse} → parsed_answer r ≡ a → k ≡ parse_number a → length ≡ length_after a before-length → bits ≡ bits_after a before-bits
       → Parses x before-length before-bits k work lent length bits
   parses_as {a = a} e p q b =
@@ -40,14 +43,14 @@ module _ {x : Reader.Parsed} {r : Parsed} {work lent : List ℕ} (G : Gives x r 
         used = b ∙ ap (λ (y : Parse). bits_after y before-bits) s;
       }
 
-  pub parses_accepted : {n bits : ℕ} → r ≡ Accepted n bits → Parses x before-length before-bits 0 work lent n bits
+  pub parses_accepted : {p : Parsed} → r ≡ Ok p → Parses x before-length before-bits 0 work lent p.numbers p.bits_used
   parses_accepted e = parses_as (ap parsed_answer e) refl refl refl
 
-  pub parses_too_short : {needed : ℕ} → r ≡ TooShort needed → Parses x before-length before-bits record_too_short work lent needed before-bits
-  parses_too_short e = parses_as (ap parsed_answer e) refl refl refl
+  pub parses_too_short : {k needed : ℕ} → r ≡ Err (RecordTooShort needed) → k ≡ record_too_short → Parses x before-length before-bits k work lent needed before-bits
+  parses_too_short e n = parses_as (ap parsed_answer e) n refl refl
 
-  pub parses_refused : {k : ℕ} → r ≡ Refused k → Parses x before-length before-bits k work lent before-length before-bits
-  parses_refused e = parses_as (ap parsed_answer e) refl refl refl
+  pub parses_refused : {k : ℕ} {e : Refusal} → r ≡ Err (Refused e) → k ≡ number_of e → Parses x before-length before-bits k work lent before-length before-bits
+  parses_refused e n = parses_as (ap parsed_answer e) n refl refl
 
 -- ── Answers with one number ───────────────────────────────────────────
 abbrev pub answer_number : Answer ℕ → ℕ

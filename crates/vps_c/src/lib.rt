@@ -12,11 +12,8 @@ ghost use Rattle.vps_reader.specs.Parse.{parse_unit};
 ghost use Rattle.vps_writer.specs.Write.{write_of, output_of};
 ghost use Rattle.vps_c.specs.Calls.{Parses, Tells};
 
-use refusals::RECORD_TOO_SHORT;
-use sentences::Worded;
-use stuffing::Stuffed;
-use vps_reader::Parsed;
-use vps_writer::Written;
+use refusals::Refusal;
+use vps_reader::NotParsed;
 
 // A unit, into a lent record. Success stores the record's length and the bits used; refusal 30 stores the length that the record
 // needs, and any other refusal stores nothing.
@@ -31,16 +28,16 @@ pub extern "C" fn vps_parse(
     ensures { Parses (parse_unit unit.now work.old «record».old) length.old bits_used.old result work.new «record».new length.new bits_used.new }
 {
     match vps_reader::parse_vps(unit, work, record) {
-        Parsed::Accepted(numbers, bits) => {
-            *length = numbers as u64;
-            *bits_used = bits as u64;
+        Ok(parsed) => {
+            *length = parsed.numbers as u64;
+            *bits_used = parsed.bits_used as u64;
             0
         }
-        Parsed::TooShort(needed) => {
+        Err(NotParsed::RecordTooShort(needed)) => {
             *length = needed as u64;
-            RECORD_TOO_SHORT
+            Refusal::RecordTooShort.number()
         }
-        Parsed::Refused(number) => number,
+        Err(NotParsed::Refused(refusal)) => refusal.number(),
     }
 }
 
@@ -51,11 +48,11 @@ pub extern "C" fn vps_write(record: &[u32], output: &mut [u8], written: &mut u64
     ensures output_after { output.new ≡ output_of output.old (write_record «record».now) }
 {
     match vps_writer::write_vps_nal(record, output) {
-        Written::Done(bytes) => {
+        Ok(bytes) => {
             *written = bytes as u64;
             0
         }
-        Written::Refused(number) => number,
+        Err(not_written) => not_written.number(),
     }
 }
 
@@ -80,11 +77,11 @@ pub extern "C" fn vps_ebsp_to_rbsp(source: &[u8], output: &mut [u8], length: &mu
     ensures output_after { output.new ≡ output_after (unstuff source.now) output.old }
 {
     match stuffing::ebsp_to_rbsp(source, output) {
-        Stuffed::Done(left) => {
+        Ok(left) => {
             *length = left as u64;
             0
         }
-        Stuffed::Refused(number) => number,
+        Err(refusal) => refusal.number(),
     }
 }
 
@@ -95,11 +92,11 @@ pub extern "C" fn vps_rbsp_to_ebsp(source: &[u8], output: &mut [u8], length: &mu
     ensures output_after { output.new ≡ output_after (stuff source.now) output.old }
 {
     match stuffing::rbsp_to_ebsp(source, output) {
-        Stuffed::Done(made) => {
+        Ok(made) => {
             *length = made as u64;
             0
         }
-        Stuffed::Refused(number) => number,
+        Err(refusal) => refusal.number(),
     }
 }
 
@@ -111,11 +108,11 @@ pub extern "C" fn vps_sentence(number: u32, output: &mut [u8], length: &mut u64)
     ensures output_after { output.new ≡ output_after (sentence_of number) output.old }
 {
     match sentences::sentence(number, output) {
-        Worded::Done(bytes) => {
+        Ok(bytes) => {
             *length = bytes as u64;
             0
         }
-        Worded::Refused(refusal) => refusal,
+        Err(refusal) => refusal,
     }
 }
 

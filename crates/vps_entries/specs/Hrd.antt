@@ -1,5 +1,5 @@
 -- The second half of general_timing_hrd_parameters(), and what the code hands on of it.
-use Rattle.std.specs.Prelude.{ℕ, Bool, leb, eqb}
+use Rattle.std.specs.Prelude.{ℕ, ◌≡◌, Bool, leb, eqb}
 use Rattle.refusals.specs.Number.{schedule_count}
 use Rattle.vps_definition.specs.Syntax.{Syntax, ◌>>=◌}
 use Rattle.vps_definition.specs.Syntax.Syntax.{done}
@@ -10,6 +10,9 @@ use Rattle.vps_entries.specs.declared.Hrd as Code
 -- the definition's record of the code's four numbers
 abbrev pub hrd_of : Code.Hrd → Hrd
 hrd_of h = record { nal = h.nal; vcl = h.vcl; du = h.du; cpb_cnt_minus1 = h.cpb_cnt_minus1 }
+
+abbrev pub IsHrd : Code.Hrd → Hrd → Type 0
+IsHrd h x = x ≡ hrd_of h
 
 -- general_timing_hrd_parameters() behind its check of the units
 unfoldable pub hrd_scales : (present : Bool) (nal vcl : ℕ) → Syntax Hrd

@@ -1,9 +1,17 @@
-// What entries of the VPS go by: whether a number is coded, what it is otherwise, and how many sublayers an entry has.
+// What entries of the VPS go by: whether a number is coded, what it is otherwise, and how many sublayers an entry has; and what
+// DPB slots, timing entries and sets share, read or written: indices into a table of entries, and an entry's max tid.
 #![tactic(auto)]
 
-ghost use Rattle.std.specs.Prelude.{◌≡◌, ◌&&◌, ltb, eqb};
-ghost use Rattle.vps_definition.specs.DpbParameters.{sublayers, index_coded, index_inferred};
+ghost use Rattle.std.specs.Prelude.{ℕ, ◌≡◌, ◌&&◌, ltb, eqb};
+ghost use Rattle.refusals.specs.Refusals.{number_of};
+ghost use Rattle.vps_definition.specs.Words.{loop};
+ghost use Rattle.vps_definition.specs.DpbParameters.{sublayers, index, index_coded, index_inferred};
 ghost use Rattle.vps_definition.specs.TimingHrd.{hrd_present};
+ghost use Rattle.vps_entries.specs.MaxTid.{max_tid};
+
+use refusals::Refusal;
+use table_steps::Steps;
+use vps_fields::Header;
 
 // What the schedules go by: the flags of general_timing_hrd_parameters() and its schedule count.
 #[derive(Clone, Copy)]
@@ -63,4 +71,46 @@ pub fn is_low_delay_coded(within: u32, present: bool, count_minus1: u32) -> bool
         return false;
     }
     present && count_minus1 == 0
+}
+
+// The i-th of `count` indices into `size` entries; refused unless it lies below.
+pub fn index<S: Steps>(
+    steps: &mut S,
+    size: u32,
+    count: u32,
+    refusal: Refusal,
+    i: u32,
+) -> Result<(), Refusal>
+    ensures { S.goes (Unit {0}) (index size count (number_of refusal) i) steps.old result steps.new }
+{
+    let v = steps.ue_if(is_index_coded(size, count), inferred_index(size, i))?;
+    steps.check(v < size, refusal)
+}
+
+// All of them, up to a refusal.
+pub fn indices<S: Steps>(
+    steps: &mut S,
+    size: u32,
+    count: u32,
+    refusal: Refusal,
+) -> Result<(), Refusal>
+    ensures { S.goes (Unit {0}) (loop {A = Unit {0}} (λ i x. index size count (number_of refusal) i) count 0 tt) steps.old result steps.new }
+{
+    for i in 0..count {
+        index(steps, size, count, refusal, i)?;
+    }
+    Ok(())
+}
+
+// An entry's max tid; refused above the sublayers.
+pub fn max_tid<S: Steps>(steps: &mut S, header: Header, refusal: Refusal) -> Result<u32, Refusal>
+    ensures { S.goes ℕ (max_tid header.default_max_tid_flag header.max_sublayers_minus1 (number_of refusal)) steps.old result steps.new }
+{
+    let tid = steps.u_if(
+        header.default_max_tid_flag == 0,
+        3,
+        header.max_sublayers_minus1,
+    )?;
+    steps.check(tid <= header.max_sublayers_minus1, refusal)?;
+    Ok(tid)
 }

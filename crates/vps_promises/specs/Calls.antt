@@ -1,5 +1,5 @@
 -- Calls of parse_vps and write_vps_nal, by their contracts: a call is what went in, what it answered and what it left.
-use Rattle.std.specs.Prelude.{ℕ, ◌+◌, ◌/◌, ◌≤◌, ◌<◌, List, [], ◌∷◌, ◌++◌, Bool, eqb, length, take, drop}
+use Rattle.std.specs.Prelude.{ℕ, ◌+◌, ◌/◌, ◌≤◌, ◌<◌, List, [], ◌∷◌, ◌++◌, Bool, eqb, length, take, drop, Result}
 use Rattle.std.proofs.Math.Path.{◌≡◌, refl, ap, subst⁻¹}
 use Rattle.std.proofs.Common.{sym, ◌∙◌, subst, arith, length-append, length-drop}
 use Rattle.std.proofs.Math.Bool.{true, false, cond}
@@ -24,16 +24,17 @@ use Rattle.vps_reader.specs.Parse.{Parse, parse_number, parse_values, untouched,
 use Rattle.vps_reader.specs.Parse as Parse
 use Rattle.vps_reader.specs.Parse.Parse.{accepted, too_short, refused}
 use Rattle.vps_reader.specs.Answers.{parsed_answer, Gives}
-use Rattle.vps_reader.specs.declared.Parsed as Code
+use Rattle.refusals.specs.declared.refusal.Refusal.{Refusal}
+use Rattle.vps_reader.specs.declared.parsed.Parsed.{Parsed}
+use Rattle.vps_reader.specs.declared.parsed.NotParsed.{NotParsed}
 use Rattle.vps_writer.specs.Write.{written_answer, write_of, output_of, Writes}
-use Rattle.vps_writer.specs.declared.Written as Code₂
 
 -- ── Calls ─────────────────────────────────────────────────────────────
 -- parse_vps on a unit, whatever the buffers held
 pub record ReadCall (u : List ℕ) : Type 0 where
   pub work : List ℕ
   pub rec : List ℕ
-  pub answer : Code.Parsed
+  pub answer : Result Parsed NotParsed
   pub work_after : List ℕ
   pub rec_after : List ℕ
   pub gives : Gives (parse_unit u work rec) answer work_after rec_after
@@ -73,7 +74,7 @@ Early k = (unit_too_short ≤ k) × (k ≤ work_too_short)
 -- write_vps_nal on a record, whatever the output held
 pub record WriteCall (r : List ℕ) : Type 0 where
   pub out : List ℕ
-  pub answer : Code₂.Written
+  pub answer : Result ℕ Refusal
   pub out_after : List ℕ
   pub gives : Writes r out answer out_after
 

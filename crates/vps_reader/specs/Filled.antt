@@ -5,24 +5,25 @@ use Rattle.std.proofs.lemmas.List.Edits.{sets}
 use Rattle.vps_definition.specs.Syntax.{numbers}
 use Rattle.vps_definition.specs.Reading.{bits_at}
 use Rattle.vps_laws.specs.Extension.{bits_at_length}
-use Rattle.read_vps.specs.declared.Whole.{Whole}
-use Rattle.read_vps.specs.Whole.{general_in, starts_in}
-use Rattle.vps_reader.specs.Measures.{Found, record_in}
+use Rattle.read_vps.specs.declared.Table as Code
+use Rattle.vps_reader.specs.Measures.{Found, record_in, nine, seven}
 use Rattle.vps_reader.specs.Stored.{stored_record}
 
-pub filled : {s : List ℕ} {w : Whole} {count bits : ℕ} (F : Found s w count bits) (lent : List ℕ) {l₁ l₂ l₃ l₄ l₅ : List ℕ}
-    → l₁ ≡ sets lent 0 (general_in w) → l₂ ≡ sets l₁ 9 (numbers F.table.kept) → l₃ ≡ set l₂ w.next.n count
-    → l₄ ≡ sets l₃ (w.next.n + 1) (bits_at s w.next.at count)
-    → l₅ ≡ set (sets l₄ (w.next.n + 1 + count) (starts_in w)) (w.next.n + 1 + count + 7) (w.next.n + 1 + count + 8)
+pub filled : {s : List ℕ} {w : Code.Table} {count bits : ℕ} (F : Found s w count bits) (lent : List ℕ) {l₁ l₂ l₃ l₄ l₅ : List ℕ}
+    → l₁ ≡ sets lent 0 w.whole.general → l₂ ≡ sets l₁ 9 (numbers F.table.kept) → l₃ ≡ set l₂ w.n count
+    → l₄ ≡ sets l₃ (w.n + 1) (bits_at s w.at count)
+    → l₅ ≡ set (sets l₄ (w.n + 1 + count) w.whole.starts) (w.n + 1 + count + 7) (w.n + 1 + count + 8)
     → l₅ ≡ sets lent 0 (record_in F)
-filled {s} {w} {count} F lent e₁ e₂ e₃ e₄ e₅ =
+filled {s} {w} {count} F lent {l₄ = l₄} e₁ e₂ e₃ e₄ e₅ =
     let t = F.table.kept in
-    let e : List ℕ = bits_at s w.next.at count in
-    let k : length e ≡ count = bits_at_length s w.next.at count in
-    let h : w.next.n ≡ 9 + length (numbers t) = F.table.count in
+    let e : List ℕ = bits_at s w.at count in
+    let k : length e ≡ count = bits_at_length s w.at count in
+    let h : w.n ≡ 9 + length (numbers t) = F.table.count in
     let f₂ = e₂ ∙ ap (λ (l : List ℕ). sets l 9 (numbers t)) e₁ in
     let f₃ = e₃ ∙ (λ i. set (f₂ i) (h i) (sym k i)) in
     let f₄ = e₄ ∙ (λ i. sets (f₃ i) (h i + 1) e) in
+    let z : 7 ≡ length w.whole.starts = sym (sym (ap length F.table.sections) ∙ seven F.table) in
     e₅
+    ∙ (λ i. set (sets l₄ (w.n + 1 + count) w.whole.starts) (w.n + 1 + count + z i) (w.n + 1 + count + 8))
     ∙ (λ i. set (sets (f₄ i) (h i + 1 + sym k i) (sym F.table.sections i)) (h i + 1 + sym k i + length (sym F.table.sections i)) (h i + 1 + sym k i + 8))
-    ∙ stored_record lent (general_in w) t e refl
+    ∙ stored_record lent w.whole.general t e (nine F.table)

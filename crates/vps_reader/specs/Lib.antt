@@ -1,6 +1,5 @@
 pub mod Parse
 pub mod Stored
-pub mod Copied
 pub mod Measures
 pub mod Filled
 pub mod Answers

@@ -1,11 +1,8 @@
 -- A record that is stored part by part from the first number on is the whole record.
-use Prim.Native.Nat.{ℕ, suc, ◌+◌}
-use Rattle.std.specs.Prelude.{◌≡◌, refl}
-use Rattle.std.proofs.Common.{sym, ◌∙◌, zero-add, arith}
-use Rattle.std.proofs.Math.Path.{ap}
-use mathlib.Core.List.{List, [], ◌∷◌, ◌++◌, append_assoc}
-use Rattle.std.proofs.Math.ListN.{length, set, length-append}
-use Rattle.std.proofs.lemmas.List.Edits.{sets}
+use Rattle.std.specs.Prelude.{ℕ, suc, ◌+◌, ◌-◌, ◌≤◌, ◌<◌, ◌≡◌, refl, List, [], ◌∷◌, ◌++◌, length, get_or, set, take, drop}
+use Rattle.std.proofs.Common.{sym, ap, ◌∙◌, zero-add, add-one, append_assoc, arith, length-append, length-take-le, take-suc, take_at, drop_at}
+use Rattle.std.proofs.lemmas.List.Edits.{sets, sets-eq}
+use Rattle.std.proofs.Math.Seq.{length-sets}
 use Rattle.lists.specs.Stored.{sets_append}
 use Rattle.vps_definition.specs.Syntax.{Token, numbers, starts}
 use Rattle.vps_definition.specs.Record.{body_of, record_of}
@@ -49,15 +46,24 @@ module _ (lent g : List ℕ) (t : List Token) (e : List ℕ) (nine : length g �
       ∙ stored_behind lent x₄ ((starts_from + 8) ∷ []) l₄
       ∙ ap (sets lent 0) (λ i. (q i ++ starts 9 t) ++ (v i ∷ []))
 
--- ── The same, as the code stores them ─────────────────────────────────
-pub seven_stored : {l₁ l₂ l₃ l₄ l₅ l₆ l₇ : List ℕ} (l : List ℕ) (n a b c d e f g : ℕ)
-    → l₁ ≡ set l n a → l₂ ≡ set l₁ (n + 1) b → l₃ ≡ set l₂ (n + 2) c → l₄ ≡ set l₃ (n + 3) d → l₅ ≡ set l₄ (n + 4) e → l₆ ≡ set l₅ (n + 5) f → l₇ ≡ set l₆ (n + 6) g
-    → l₇ ≡ sets l n (a ∷ b ∷ c ∷ d ∷ e ∷ f ∷ g ∷ [])
-seven_stored l n a b c d e f g e₁ e₂ e₃ e₄ e₅ e₆ e₇ =
-    let h₁ : n + 1 ≡ suc n = omega arith in
-    let h₂ : n + 2 ≡ suc (suc n) = omega arith in
-    let h₃ : n + 3 ≡ suc (suc (suc n)) = omega arith in
-    let h₄ : n + 4 ≡ suc (suc (suc (suc n))) = omega arith in
-    let h₅ : n + 5 ≡ suc (suc (suc (suc (suc n)))) = omega arith in
-    let h₆ : n + 6 ≡ suc (suc (suc (suc (suc (suc n))))) = omega arith in
-    rw (e₇, e₆, e₅, e₄, e₃, e₂, e₁, h₁, h₂, h₃, h₄, h₅, h₆) refl
+-- ── A list stored number by number, and a part of a list ──────────────
+-- i numbers stored, and one more
+pub one_stored : (l x : List ℕ) (at i : ℕ) → i < length x → set (sets l at (take i x)) (at + i) (get_or x i 0) ≡ sets l at (take (i + 1) x)
+one_stored l x at i h =
+    ap (λ (k : ℕ). set (sets l at (take i x)) (at + k) (get_or x i 0)) (sym (length-take-le i x (omega (arith, h))))
+    ∙ sym (sets_append l at (take i x) (get_or x i 0 ∷ []))
+    ∙ ap (sets l at) (sym (take-suc x i 0 h) ∙ ap (λ (k : ℕ). take k x) (sym (add-one i)))
+
+-- the numbers from one place to another
+abbrev pub part : List ℕ → ℕ → ℕ → List ℕ
+part l i end = take (end - i) (drop i l)
+
+-- what was stored from a place on is the part there
+pub part_stored : (lent l : List ℕ) (i end : ℕ) (x : List ℕ) → l ≡ sets lent i x → end ≡ i + length x → end ≤ length l → part l i end ≡ x
+part_stored lent l i end x e f h =
+    let m : i + length x ≤ length lent = omega (arith, ap length e, length-sets lent i x) in
+    let k : end - i ≡ length x = omega arith in
+    let w : l ≡ take i lent ++ (x ++ drop (i + length x) lent) = e ∙ sets-eq x lent i m ∙ append_assoc (take i lent) x (drop (i + length x) lent) in
+    ap (λ (n : ℕ). take n (drop i l)) k ∙ ap (λ (a : List ℕ). take (length x) (drop i a)) w
+    ∙ ap (take (length x)) (drop_at (take i lent) (x ++ drop (i + length x) lent) i (length-take-le i lent (omega arith)))
+    ∙ take_at x (drop (i + length x) lent) (length x) refl

@@ -1,6 +1,6 @@
 -- The text of every input has room in the buffer: a number takes at most eleven bytes, and the sections of a record follow
 -- one another, so that their lines have no more numbers than the record.
-use Rattle.std.specs.Prelude.{ℕ, ◌+◌, ◌*◌, ◌-◌, ◌≤◌, ◌≡◌, refl, List, [], ◌∷◌, ◌++◌, Bool, true, false, cond, length}
+use Rattle.std.specs.Prelude.{ℕ, ◌+◌, ◌*◌, ◌≤◌, ◌≡◌, refl, List, [], ◌∷◌, ◌++◌, Bool, true, false, cond, length}
 use Rattle.std.proofs.Common.{arith, length-append}
 use Rattle.vps_reader.specs.Parse.{Parsed, untouched}
 use Rattle.text_numbers.specs.Decimal.{decimal32, places_most}

@@ -1,12 +1,15 @@
 -- What vps-show prints: `ok` and the length, and a line a section; or `refused` and the number; or `too long`.
-use Rattle.std.specs.Prelude.{ℕ, zero, suc, ◌+◌, ◌-◌, ◌≤◌, ◌<◌, min, ◌≡◌, refl, List, [], ◌∷◌, ◌++◌, Bool, true, false, cond, leb, length, replicate, take, drop, get_or}
-use Rattle.std.proofs.Common.{sym, ap, ◌∙◌, add-one, arith, leb-true, leb-false, le-leb, drop_of_length-le, drop-cons, take_all}
+use Rattle.std.specs.Prelude.{ℕ, zero, suc, ◌+◌, ◌-◌, ◌≤◌, ◌<◌, ◌≡◌, refl, List, [], ◌∷◌, ◌++◌, cond, leb, length, replicate, take, drop, get_or, Err}
+use Rattle.std.proofs.Common.{sym, ap, ◌∙◌, add-zero, zero-add, add-one, append-nil, append_assoc, not-suc-le-zero, le_of_suc-le-suc, arith, le-leb}
 use Rattle.std.proofs.lemmas.Bool.{lt-leb}
+use Rattle.refusals.specs.Refusals.{number_of}
 use Rattle.vps_definition.specs.Record.{start_of, end_of}
 use Rattle.vps_reader.specs.Parse.{Parse, parse_number, parse_unit}
 use Rattle.vps_reader.specs.Parse.Parse.{accepted, too_short, refused}
+use Rattle.vps_reader.specs.Answers.{parsed_answer, refusal_of}
+use Rattle.vps_reader.specs.declared.parsed.NotParsed.{NotParsed}
+use Rattle.vps_reader.specs.declared.parsed.NotParsed.TheVariants.{RecordTooShort, Refused}
 use Rattle.text_numbers.specs.Decimal.{decimal, decimal32}
-use Rattle.texts.specs.Text.{Puts, puts_length, puts_none, puts_then}
 
 -- each number of 32 bits behind a space
 unfoldable pub spaced : List ℕ → List ℕ
@@ -74,6 +77,12 @@ shown (accepted n bits) lent = ok_text n ++ record_text (take n lent)
 shown (too_short needed) lent = refused_text (parse_number (too_short needed))
 shown (refused n) lent = refused_text (parse_number (refused n))
 
+-- without a record, the number of the refusal
+pub shown_refused : (e : NotParsed) (lent : List ℕ) → refused_text (number_of (refusal_of e)) ≡ shown (parsed_answer (Err e)) lent
+unfolding shown
+shown_refused (RecordTooShort needed) lent = refl
+shown_refused (Refused e) lent = refl
+
 -- the bytes of a unit and of the work buffer, and the numbers of the record buffer
 abbrev pub unit_bytes : ℕ
 unit_bytes = 4096
@@ -103,53 +112,54 @@ pub shown_long : (input : List ℕ) → unit_bytes < length input → too_long �
 unfolding shown_input
 shown_long input h = rw (lt-leb (length input) unit_bytes h) refl
 
--- ── Parts ─────────────────────────────────────────────────────────────
-pub part_spaced : (r : List ℕ) (k : ℕ) {start end : ℕ} → start ≡ start_of r k → end ≡ end_of r k → spaced (take (end - start) (drop start r)) ≡ spaced (part r k)
-part_spaced r k e f = λ i. spaced (take (f i - e i) (drop (e i) r))
-
--- as many numbers as there are
-pub first_part : (x : List ℕ) (n : ℕ) {end : ℕ} → end ≡ min n (length x) → take (end - 0) (drop 0 x) ≡ take n x
-first_part x n {end} e = go (leb n (length x)) refl
-  where
-    go : (b : Bool) → leb n (length x) ≡ b → take (end - 0) x ≡ take n x
-    go true g = let h : end - 0 ≡ n = omega (arith, e, leb-true n (length x) g) in ap (λ (k : ℕ). take k x) h
-    go false g = take_all (end - 0) x (omega (arith, e, leb-false n (length x) g)) ∙ sym (take_all n x (omega (arith, leb-false n (length x) g)))
-
 -- ── Number by number ──────────────────────────────────────────────────
--- once the numbers from i up to an end are put too, all are
-pub record Listing (x : List ℕ) (from end at : ℕ) (text text' : List ℕ) (next i : ℕ) : Type 0 where
-  pub left : (next' : ℕ) (text₂ : List ℕ) → Puts (spaced (take (end - i) (drop i x))) next next' text' text₂ → Puts (spaced (take (end - from) (drop from x))) at next' text text₂
-  pub same_length : length text' ≡ length text
+spaced_next : (x : List ℕ) (i : ℕ) → i < length x → spaced (take i x) ++ (32 ∷ decimal32 (get_or x i 0)) ≡ spaced (take (suc i) x)
+unfolding spaced
+spaced_next [] i h = absurd (not-suc-le-zero h)
+spaced_next (n ∷ x) zero h = sym (append-nil (32 ∷ decimal32 n))
+spaced_next (n ∷ x) (suc i) h = append_assoc (32 ∷ decimal32 n) (spaced (take i x)) (32 ∷ decimal32 (get_or x i 0)) ∙ ap (λ (l : List ℕ). (32 ∷ decimal32 n) ++ l) (spaced_next x i (le_of_suc-le-suc h))
 
-pub listing_start : (x : List ℕ) (from end at : ℕ) (text : List ℕ) → Listing x from end at text text at from
-listing_start x from end at text = record { left = λ n t p. p; same_length = refl }
+pub spaced_none : spaced [] ≡ []
+unfolding spaced
+spaced_none = refl
 
-one_more : (x : List ℕ) (end i : ℕ) → i < end → i < length x → take (end - i) (drop i x) ≡ get_or x i 0 ∷ take (end - (i + 1)) (drop (i + 1) x)
-one_more x end i h l =
-    ap (λ (k : ℕ). take k (drop i x)) count
-    ∙ ap (take (suc (end - (i + 1)))) (drop-cons x i 0 l ∙ ap (λ (k : ℕ). get_or x i 0 ∷ drop k x) (sym (add-one i)))
+pub spaced_more : (x : List ℕ) (i : ℕ) → i < length x → spaced (take i x) ++ (32 ∷ decimal32 (get_or x i 0)) ≡ spaced (take (i + 1) x)
+spaced_more x i h = spaced_next x i h ∙ ap (λ (k : ℕ). spaced (take k x)) (sym (add-one i))
+
+-- ── Line by line ──────────────────────────────────────────────────────
+abbrev pub names : List (List ℕ)
+names = general_name ∷ layers_name ∷ rows_name ∷ ptls_name ∷ ols_name ∷ dpb_name ∷ timing_name ∷ extension_name ∷ trailer_name ∷ []
+
+-- the lines of sections by their names, from section k on
+unfoldable pub lines : List (List ℕ) → List ℕ → (k : ℕ) → List ℕ
+lines [] r k = []
+lines (name ∷ others) r k = line name r k ++ lines others r (suc k)
+
+lines_next : (x : List (List ℕ)) (r : List ℕ) (k i : ℕ) → i < length x → lines (take i x) r k ++ line (get_or x i []) r (k + i) ≡ lines (take (suc i) x) r k
+unfolding lines
+lines_next [] r k i h = absurd (not-suc-le-zero h)
+lines_next (name ∷ x) r k zero h = rw (add-zero k) (sym (append-nil (line name r k)))
+lines_next (name ∷ x) r k (suc i) h =
+    append_assoc (line name r k) (lines (take i x) r (suc k)) (line (get_or x i []) r (k + suc i))
+    ∙ ap (λ (l : List ℕ). line name r k ++ l) (ap (λ (j : ℕ). lines (take i x) r (suc k) ++ line (get_or x i []) r j) next ∙ lines_next x r (suc k) i (le_of_suc-le-suc h))
   where
-    count : end - i ≡ suc (end - (i + 1))
-    count = omega (arith, h)
+    next : k + suc i ≡ suc k + i
+    next = omega arith
 
-module _ {x : List ℕ} {from end at : ℕ} {text text' : List ℕ} {next i : ℕ} (s : Listing x from end at text text' next i) where
-  pub listing_turn : {next' : ℕ} {text₂ : List ℕ} → i < end → i < length x → Puts (32 ∷ decimal32 (get_or x i 0)) next next' text' text₂ → Listing x from end at text text₂ next' (i + 1)
-  unfolding spaced
-  listing_turn h l p = record { left = λ n t q. s.left n t (rw (one_more x end i h l) (puts_then p q)); same_length = puts_length p ∙ s.same_length }
+pub lines_none : (r : List ℕ) → lines [] r 0 ≡ []
+unfolding lines
+lines_none r = refl
 
-  none_left : take (end - i) (drop i x) ≡ [] → Puts (spaced (take (end - from) (drop from x))) at next text text'
-  unfolding spaced
-  none_left e = s.left next text' (rw e (puts_none next text'))
+pub lines_more : (x : List (List ℕ)) (r : List ℕ) (i : ℕ) → i < length x → lines (take i x) r 0 ++ line (get_or x i []) r i ≡ lines (take (i + 1) x) r 0
+lines_more x r i h =
+    ap (λ (k : ℕ). lines (take i x) r 0 ++ line (get_or x i []) r k) (sym (zero-add i))
+    ∙ lines_next x r 0 i h
+    ∙ ap (λ (k : ℕ). lines (take k x) r 0) (sym (add-one i))
 
-  pub listing_stop : length x ≤ i → Puts (spaced (take (end - from) (drop from x))) at next text text'
-  listing_stop h = none_left (rw (drop_of_length-le x h) (nothing (end - i)))
-    where
-      nothing : (k : ℕ) → take {A = ℕ} k [] ≡ []
-      nothing zero = refl
-      nothing (suc k) = refl
-
-  pub listing_done : end ≤ i → Puts (spaced (take (end - from) (drop from x))) at next text text'
-  listing_done h = none_left (ap (λ (k : ℕ). take k (drop i x)) none)
-    where
-      none : end - i ≡ 0
-      none = omega (arith, h)
+-- all of them are the record's
+pub lines_are : (r : List ℕ) → lines names r 0 ≡ record_text r
+unfolding lines first_lines last_lines record_text
+lines_are r = in_order (line general_name r 0) (line layers_name r 1) (line rows_name r 2) (line ptls_name r 3) (line ols_name r 4) (line dpb_name r 5) (line timing_name r 6) (line extension_name r 7) (line trailer_name r 8)
+  where
+    in_order : (a b c d e f g h i : List ℕ) → a ++ (b ++ (c ++ (d ++ (e ++ (f ++ (g ++ (h ++ (i ++ [])))))))) ≡ (a ++ b ++ c ++ d ++ e) ++ (f ++ g ++ h ++ i)
+    in_order a b c d e f g h i = simp (append_assoc, append-nil)

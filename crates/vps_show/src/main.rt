@@ -4,13 +4,13 @@
 ghost use Rattle.std.specs.Prelude.{◌≡◌, length};
 ghost use Rattle.lists.specs.Stored.{overlaid};
 ghost use Rattle.io.specs.Counts.{IsPrefixLen};
-ghost use Rattle.texts.specs.Text.{Puts};
+ghost use Rattle.texts.specs.Adds.{Adds};
 ghost use Rattle.vps_show.specs.Shown.{shown_unit, shown_input};
 
 mod shown;
 mod text;
 
-use texts::put;
+use texts::Text;
 use vps_reader::parse_vps;
 
 // Standard input and output.
@@ -37,32 +37,42 @@ const OK_BYTES: usize = 24;
 const TEXT_BYTES: usize = RECORD_NUMBERS * NUMBER_BYTES + NAME_BYTES + OK_BYTES;
 
 // The text for a unit.
-fn show_unit(unit: &[u8], text: &mut [u8]) -> usize
-    ensures { Puts (shown_unit unit.now) 0 result text.old text.new }
+fn show_unit(unit: &[u8], text: &mut Text)
+    ensures { Adds (shown_unit unit.now) text.old text.new }
 {
     let mut work = [0u8; UNIT_BYTES];
     let mut record = [0u32; RECORD_NUMBERS];
     let answer = parse_vps(unit, &mut work, &mut record);
-    shown::put_answer(text, answer, &record)
+    shown::put_answer(text, answer, &record);
+}
+
+// The text for an input.
+fn show_input(input: &[u8], text: &mut Text)
+    ensures { Adds (shown_input input.now) text.old text.new }
+{
+    if input.len() <= UNIT_BYTES {
+        show_unit(input, text);
+    } else {
+        text.put(b"too long\n");
+    }
 }
 
 // The text for an input, whole; the bytes behind it are unchanged.
-fn show(input: &[u8], text: &mut [u8; TEXT_BYTES]) -> usize
+fn show(input: &[u8], room: &mut [u8; TEXT_BYTES]) -> usize
     ensures value { result ≡ length (shown_input input.now) }
-    ensures text_after { text.new ≡ overlaid (shown_input input.now) text.old }
-    ensures prefix_len { IsPrefixLen result text.new }
+    ensures text_after { room.new ≡ overlaid (shown_input input.now) room.old }
+    ensures prefix_len { IsPrefixLen result room.new }
 {
-    if input.len() <= UNIT_BYTES {
-        return show_unit(input, text);
-    }
-    put(text, 0, b"too long\n")
+    let mut text = Text::at(room, 0);
+    show_input(input, &mut text);
+    text.place
 }
 
 fn main() {
     // one byte more shows an input that is too long
     let mut input = [0u8; UNIT_BYTES + 1];
     let got = io::read_full(STDIN_FILENO, &mut input);
-    let mut text = [0u8; TEXT_BYTES];
-    let end = show(&input[..got], &mut text);
-    io::write_all(STDOUT_FILENO, &text[..end]);
+    let mut room = [0u8; TEXT_BYTES];
+    let end = show(&input[..got], &mut room);
+    io::write_all(STDOUT_FILENO, &room[..end]);
 }

@@ -4,14 +4,14 @@
 ghost use Rattle.std.specs.Prelude.{◌≡◌, length};
 ghost use Rattle.io.specs.Counts.{IsPrefixLen};
 ghost use Rattle.lists.specs.Stored.{overlaid};
-ghost use Rattle.texts.specs.Text.{Puts};
+ghost use Rattle.texts.specs.Adds.{Adds};
 ghost use Rattle.vps_reader.specs.Answers.{parsed_answer};
 ghost use Rattle.vps_why.specs.Why.{refused_line, parsed_line, why};
 
 use sentences::put_sentence;
 use text_numbers::put_decimal;
-use texts::put;
-use vps_reader::{Parsed, parse_vps};
+use texts::Text;
+use vps_reader::{NotParsed, Parsed, parse_vps};
 
 // Standard input and output.
 const STDIN_FILENO: i32 = 0;
@@ -28,42 +28,44 @@ const WORK_BYTES: usize = 65535;
 const LINE_BYTES: usize = 69;
 
 // The number of a refusal and its sentence.
-fn put_refused(text: &mut [u8], number: u32) -> usize
-    ensures { Puts (refused_line number) 0 result text.old text.new }
+fn put_refused(text: &mut Text, number: u32)
+    ensures { Adds (refused_line number) text.old text.new }
 {
-    let counted = put_decimal(text, 0, number as u64);
-    let parted = put(text, counted, b" ");
-    let said = put_sentence(text, parted, number);
-    put(text, said, b"\n")
+    put_decimal(text, number as u64);
+    text.put(b" ");
+    put_sentence(text, number);
+    text.put(b"\n");
 }
 
 // The line for an answer of the reader; too short a record buffer is no fault of the unit.
-fn put_answer(text: &mut [u8], answer: Parsed) -> usize
-    ensures { Puts (parsed_line (parsed_answer answer)) 0 result text.old text.new }
+fn put_answer(text: &mut Text, answer: Result<Parsed, NotParsed>)
+    ensures { Adds (parsed_line (parsed_answer answer)) text.old text.new }
 {
     match answer {
-        Parsed::Accepted(_, _) => put(text, 0, b"accepted\n"),
-        Parsed::TooShort(_) => put(text, 0, b"accepted\n"),
-        Parsed::Refused(number) => put_refused(text, number),
+        Ok(_) => text.put(b"accepted\n"),
+        Err(NotParsed::RecordTooShort(_)) => text.put(b"accepted\n"),
+        Err(NotParsed::Refused(refusal)) => put_refused(text, refusal.number()),
     }
 }
 
 // The line for a unit, whole; the bytes behind it are unchanged.
-fn why_of(unit: &[u8], text: &mut [u8; LINE_BYTES]) -> usize
+fn why_of(unit: &[u8], line: &mut [u8; LINE_BYTES]) -> usize
     ensures value { result ≡ length (why unit.now) }
-    ensures text_after { text.new ≡ overlaid (why unit.now) text.old }
-    ensures prefix_len { IsPrefixLen result text.new }
+    ensures text_after { line.new ≡ overlaid (why unit.now) line.old }
+    ensures prefix_len { IsPrefixLen result line.new }
 {
     let mut work = [0u8; WORK_BYTES];
     let mut record = [0u32; 1];
     let answer = parse_vps(unit, &mut work, &mut record);
-    put_answer(text, answer)
+    let mut text = Text::at(line, 0);
+    put_answer(&mut text, answer);
+    text.place
 }
 
 fn main() {
     let mut unit = [0u8; UNIT_BYTES];
     let got = io::read_full(STDIN_FILENO, &mut unit);
-    let mut text = [0u8; LINE_BYTES];
-    let end = why_of(&unit[..got], &mut text);
-    io::write_all(STDOUT_FILENO, &text[..end]);
+    let mut line = [0u8; LINE_BYTES];
+    let end = why_of(&unit[..got], &mut line);
+    io::write_all(STDOUT_FILENO, &line[..end]);
 }

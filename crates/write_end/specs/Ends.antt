@@ -1,6 +1,6 @@
 -- How a record that the table has taken ends: what the code finds, and what that makes of the record.
 use Prim.Native.Nat.{ℕ, ◌+◌, ◌-◌, ◌*◌, ◌≤◌, ◌<◌}
-use Rattle.std.specs.Prelude.{◌≡◌, Bool, true, ◌||◌, eqb, get_or, drop}
+use Rattle.std.specs.Prelude.{◌≡◌, Bool, true, ◌||◌, eqb, get_or, drop, Result, Ok, Err}
 use Rattle.std.proofs.Math.Path.{refl, sym, ap}
 use Rattle.std.proofs.Common.{◌∙◌, subst, add-zero, arith, eq-eqb, length-append, take_all, drop-drop, get_or-drop}
 use mathlib.Core.List.{List, [], ◌∷◌}
@@ -22,11 +22,12 @@ use Rattle.vps_definition.specs.Reading.{most_rbsp_bytes}
 use Rattle.vps_definition.specs.Writing.{all_flags, extension_good, extension_of, rbsp_of, unit_of, limited, parts_good, finished}
 use Rattle.vps_laws.specs.Units.{rbsp_size}
 use Rattle.vps_laws.specs.Accepted.{finished_of}
-use Rattle.write_steps.specs.Does.{Fails}
+use Rattle.writing.specs.Emits.{Fails}
 use Rattle.write_end.specs.Parts.{Taken, Passed, trailer_of, count_in, parts_passed, made_up}
 use Rattle.write_end.specs.Flags.{data_flag, Flagged, flags_are, flags_bad}
 use Rattle.write_end.specs.Numbers.{Stands}
-use Rattle.write_end.specs.declared.Ended.{Ended}
+use Rattle.refusals.specs.declared.refusal.Refusal.{Refusal}
+use Rattle.refusals.specs.declared.refusal.Refusal.TheVariants.{NotWellFormed}
 
 -- ── All but the flags ─────────────────────────────────────────────────
 -- extension bits only under flag 1
@@ -154,9 +155,9 @@ pub record Stored (x : Answer (List ℕ)) (start : ℕ) (lent : List ℕ) (n : �
   pub stored : out' ≡ sets lent start (stuff rbsp)
 
 -- what is made of a record that the table has taken
-pub record Finishes (x : Answer (List ℕ)) (start : ℕ) (lent : List ℕ) (e : Ended) (out' : List ℕ) : Type 0 where
-  pub good : e.bad ≡ false → Stored x start lent e.len out'
-  pub refused : e.bad ≡ true → x ≡ refusal not_well_formed
+abbrev pub Finishes : Answer (List ℕ) → (start : ℕ) (lent : List ℕ) → Result ℕ Refusal → List ℕ → Type 0
+Finishes x start lent (Ok n) out' = Stored x start lent n out'
+Finishes x start lent (Err e) out' = (e ≡ NotWellFormed) × (x ≡ refusal not_well_formed)
 
 pub finished_bad : (r g : List ℕ) (t : List Token) (x b : List ℕ) → parts_good g t (extension_of x) r ≡ false → finished r (wrote g t x b) ≡ refusal not_well_formed
 unfolding finished

@@ -8,6 +8,7 @@ use Rattle.vps_definition.specs.Syntax.Token.{number}
 use Rattle.vps_definition.specs.Syntax.Written.{wrote, bad}
 use Rattle.vps_definition.specs.Words.{u, nothing, loop, repeat}
 use Rattle.vps_definition.specs.Writing.{all_flags}
+use Rattle.table_steps.specs.Words.{kept_field}
 
 -- vps_extension_data_flag
 abbrev pub data_flag : Syntax (Unit {0})
@@ -63,3 +64,8 @@ flags_are n r x at e = subst (FlaggedBy n x) (sym (flags_emitted n r x at) ∙ e
 
 pub flags_bad : (n : ℕ) (r x : List ℕ) (at : ℕ) → emit (repeat n data_flag) r x at ≡ bad → n ≤ length x → all_flags (take n x) ≡ false
 flags_bad n r x at e = subst (FlaggedBy n x) (sym (flags_emitted n r x at) ∙ e) (flagged n x)
+
+-- they are fields that only the record keeps
+pub data_flags_kept : (n : ℕ) → repeat n (kept_field 1) ≡ repeat n data_flag
+unfolding u nothing ◌>>=◌
+data_flags_kept n = refl

@@ -4,48 +4,28 @@
 ghost use Rattle.std.specs.Prelude.{◌≡◌, List, ◌||◌, ℕ, ◌+◌, ◌-◌, ◌<◌, length, get_or, drop};
 ghost use Rattle.vps_definition.specs.Syntax.{Token};
 ghost use Rattle.vps_definition.specs.Syntax.Written.{wrote};
-ghost use Rattle.vps_definition.specs.Words.{repeat};
 ghost use Rattle.vps_definition.specs.Writing.{finished};
-ghost use Rattle.write_steps.specs.Does.{Ready, Does};
+ghost use Rattle.writing.specs.Emits.{Ready, Stays, Emits};
 ghost use Rattle.write_end.specs.Parts.{Taken, trailer_of, count_in};
-ghost use Rattle.write_end.specs.Flags.{data_flag};
 ghost use Rattle.write_end.specs.Numbers.{Has};
 ghost use Rattle.write_end.specs.Ends.{may_extend, Looked, extension_table, Finishes};
 
 use record_parts::Record;
-use write_steps::Place;
-
-// How a writing ended: badly, or with so many bytes.
-#[derive(Clone, Copy)]
-pub struct Ended {
-    pub bad: bool,
-    pub len: usize,
-}
-
-// How many numbers stand from a place on.
-fn left_from(rec: &[u32], from: usize) -> usize
-    ensures { result ≡ length rec.now - from }
-{
-    if rec.len() < from {
-        0
-    } else {
-        rec.len() - from
-    }
-}
+use refusals::Refusal;
+use table_steps::Steps;
+use writing::Writing;
 
 // Whether the record has these numbers from a place on.
 fn has_numbers(rec: &[u32], from: usize, list: &[usize]) -> bool
     ensures { Has rec.now from list.now result }
 {
-    if left_from(rec, from) < list.len() {
+    if rec.len().saturating_sub(from) < list.len() {
         return false;
     }
-    let mut i = 0;
-    while i < list.len() {
-        if record_parts::number_at(rec, from + i) as usize != list[i] {
+    for (i, number) in list.iter().enumerate() {
+        if record_parts::number_at(rec, from + i) as usize != *number {
             return false;
         }
-        i += 1;
     }
     true
 }
@@ -61,7 +41,7 @@ fn may_extend(flag: u32, count: usize) -> bool
 fn has_end(rec: &[u32], c: usize, flag: u32, general: &[usize], trailer: &[usize]) -> bool
     ensures { (t : List Token) → Taken rec.now general.now t c → trailer.now ≡ trailer_of rec.now t → get_or general.now 8 0 ≡ flag → Looked rec.now general.now t c result }
 {
-    let left = left_from(rec, c);
+    let left = rec.len().saturating_sub(c);
     if left < Record::END {
         return false;
     }
@@ -78,56 +58,32 @@ fn has_end(rec: &[u32], c: usize, flag: u32, general: &[usize], trailer: &[usize
     may_extend(flag, count)
 }
 
-// So many flags of one bit.
-fn put_flags(rec: &[u32], out: &mut [u8], p: Place, count: u32) -> Place
-    ensures { Does (repeat count data_flag) rec.now p tt result out.old out.new }
-{
-    let mut at = p;
-    let mut i: u32 = 0;
-    while i < count {
-        let flag = write_fields::put(rec, out, at, 1);
-        at = flag.next;
-        i += 1;
-        if at.bad {
-            return at;
-        }
-    }
-    at
-}
-
 // The extension: its count, and its bits.
-fn write_extension(rec: &[u32], out: &mut [u8], p: Place) -> Place
-    ensures { Does (extension_table (count_in rec.now p.c)) rec.now p tt result out.old out.new }
+fn extension(writing: &mut Writing) -> Result<(), Refusal>
+    ensures { Emits (extension_table (count_in writing.old.rec.now writing.old.c)) writing.old result writing.new }
 {
-    let count = record_parts::number_at(rec, p.c);
-    let kept = write_steps::keep(rec, p, count);
-    put_flags(rec, out, kept.next, count)
+    let count = record_parts::number_at(writing.rec, writing.c);
+    writing.infer(count)?;
+    writing.flags(count as usize)
 }
 
-// The end of a record whose table is written: the extension, the trailing bits, and the 03 that may follow them.
+// The end of a record whose table is written: the extension, the trailing bits, and the 03 that may follow them. Says how far
+// the output is used, or would be with room.
 pub fn write_end(
-    rec: &[u32],
-    out: &mut [u8],
-    p: Place,
+    writing: &mut Writing,
     flag: u32,
     general: &[usize],
     trailer: &[usize],
-) -> Ended
-    ensures { (start : ℕ) (d lent : List ℕ) (t : List Token) → Ready start d p lent out.old → Taken rec.now general.now t p.c → trailer.now ≡ trailer_of rec.now t → get_or general.now 8 0 ≡ flag → Finishes (finished rec.now (wrote general.now t (drop p.c rec.now) d)) start lent result out.new }
+) -> Result<usize, Refusal>
+    ensures stays { Stays writing.old writing.new }
+    ensures ends { (start : ℕ) (d lent : List ℕ) (t : List Token) → Ready start d writing.old lent → Taken writing.old.rec.now general.now t writing.old.c → trailer.now ≡ trailer_of writing.old.rec.now t → get_or general.now 8 0 ≡ flag → Finishes (finished writing.old.rec.now (wrote general.now t (drop writing.old.c writing.old.rec.now) d)) start lent result writing.new.out.now }
 {
-    if !has_end(rec, p.c, flag, general, trailer) {
-        return Ended { bad: true, len: 0 };
+    if !has_end(writing.rec, writing.c, flag, general, trailer) {
+        return Err(Refusal::NotWellFormed);
     }
-    let next = write_extension(rec, out, p);
-    if next.bad {
-        return Ended { bad: true, len: 0 };
+    extension(writing)?;
+    if Record::MOST_RBSP_BITS <= writing.sink.bits {
+        return Err(Refusal::NotWellFormed);
     }
-    let sink = next.sink;
-    if Record::MOST_RBSP_BITS <= sink.bits {
-        return Ended { bad: true, len: 0 };
-    }
-    Ended {
-        bad: false,
-        len: bit_sink::finish(out, sink),
-    }
+    Ok(bit_sink::finish(writing.out, writing.sink))
 }

@@ -12,9 +12,6 @@ returns-then-zeros-ge32 c =
     let n = 8 * length c.args.bytes.now - c.args.at in
     sym (no_code c.args.bytes.now c.args.at c.requires.1 (omega (arith, width_le n)))
 
-pub overflow_sub-result : goal.overflow_sub-result
-overflow_sub-result c = omega (arith, one_shl c.bits_left-zeros.result 32 (omega arith), pow_pos c.bits_left-zeros.result)
-
 pub returns : goal.returns
 returns c =
     let k = c.bits_left-zeros.result in

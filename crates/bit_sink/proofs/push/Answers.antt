@@ -16,4 +16,4 @@ returns c start b lent h few short =
     let w = c.capped-w.result in
     rw (← c.capped-w.ensures.0)
     (pushed h w c.args.value c.joined-v.result _ (c.joined-v.ensures c.capped-w.ensures.1) refl c.low_bits.ensures
-    (c.store_bytes-end.ensures (omega arith) (omega (arith, len_bounded h, few, short))))
+    (c.store_bytes.ensures (omega arith) (omega (arith, len_bounded h, few, short))))

@@ -1,21 +1,16 @@
 -- `sentence` meets its contract: the buffer has room for every sentence.
-use mathlib.Core.Path.{sym}
-use native.Mathlib.Omega.{arith}
-use lib.Seq.{length-take-le}
-use Rattle.sentences.proofs.Steps.{whole, too_short, has_room}
+use Rattle.std.proofs.Common.{ap, length, ◌∙◌, arith}
+use Rattle.sentences.proofs.Steps.{said_whole, too_short, has_room}
 use Rattle.sentences.proofs.sentence.Goals as goal
 
-pub returns-then-output-end : goal.returns-then-output-end
-returns-then-output-end c =
-    let none = too_short (whole c.args.number c.put_sentence-end.ensures (omega arith)) c.if-output-end.true in
-    record { result_value = none.0; output_after = none.1 }
-
-pub slice_bounds-put-end : goal.slice_bounds-put-end
-slice_bounds-put-end c =
-    let w = whole c.args.number c.put_sentence-end.ensures (omega arith) in
-    sym (length-take-le _ _ w.inside)
+pub returns-then-output-said : goal.returns-then-output-said
+returns-then-output-said c =
+    let said = c.so_far-said.ensures ∙ said_whole c.args.number c.put_sentence.ensures c.at-text.ensures.place (omega (arith, ap length c.at-text.ensures.bytes)) in
+    let none = too_short _ _ _ said c.if-output-said.true in
+    record { result_value = rw c.number.ensures none.0; output_after = none.1 }
 
 pub returns : goal.returns
 returns c =
-    let room = has_room (whole c.args.number c.put_sentence-end.ensures (omega arith)) c.if-output-end.false c.put.ensures in
+    let said = c.so_far-said.ensures ∙ said_whole c.args.number c.put_sentence.ensures c.at-text.ensures.place (omega (arith, ap length c.at-text.ensures.bytes)) in
+    let room = has_room _ _ c.args.output.now said c.if-output-said.false c.copy_from_slice.ensures.after in
     record { result_value = room.0; output_after = room.1 }

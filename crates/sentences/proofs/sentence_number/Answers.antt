@@ -1,30 +1,16 @@
 -- `sentence_number` meets its contract: no number before has the sentence.
-use mathlib.Core.Path.{sym, ◌∙◌}
-use mathlib.Core.Bool.{false≢true}
-use Rattle.sentences.specs.Laws.{opened}
-use Rattle.sentences.proofs.Steps.{below_start, below_turn, below_found, below_none}
-use native.Mathlib.Omega.{arith}
+use Rattle.std.proofs.Common.{sym, ap, ◌∙◌, arith}
+use Rattle.sentences.specs.Sentences.{number_of}
+use Rattle.sentences.specs.Laws.{InTable, opened}
+use Rattle.sentences.proofs.Promises.{number_of_sentence, other_bytes_give_none}
 use Rattle.sentences.proofs.sentence_number.Goals as goal
-
-pub loop-number-init : goal.loop-number-init
-loop-number-init c = below_start _
 
 pub returns-then-is_sentence : goal.returns-then-is_sentence
 unfolding opened
-returns-then-is_sentence c = below_found c.loop-number.invariant (omega (arith, c.loop-number-test.true)) (c.is_sentence.ensures.0 c.if-is_sentence.true)
-
-pub overflow_add-number : goal.overflow_add-number
-unfolding opened
-overflow_add-number c = omega (arith, c.loop-number-test.true)
-
-pub loop-number-preserved : goal.loop-number-preserved
-unfolding opened
-loop-number-preserved c = below_turn c.loop-number.invariant (omega (arith, c.loop-number-test.true)) (λ e. false≢true (sym c.if-is_sentence.false ∙ c.is_sentence.ensures.1 e))
+returns-then-is_sentence c =
+    let t : InTable c.loop-number.number = record { first = omega arith; last = omega arith } in
+    sym (number_of_sentence _ t) ∙ ap number_of (c.is_sentence.ensures.0 c.if-is_sentence.true)
 
 pub returns : goal.returns
 unfolding opened
-returns c = below_none c.loop-number.invariant (omega (arith, c.loop-number-test.false))
-
-pub loop-number-smaller : goal.loop-number-smaller
-unfolding opened
-loop-number-smaller c = omega (arith, c.loop-number-test.true)
+returns c = sym (other_bytes_give_none _ (λ n t. c.loop-number.invariant n t.first (omega (arith, t.last))))

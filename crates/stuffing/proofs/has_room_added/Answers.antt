@@ -1,6 +1,4 @@
 -- `has_room_added` meets its contract: adding never shortens, and lengthens by at most one half.
-use mathlib.Core.Path.{ap}
-use lib.Dec.{leb}
 use Rattle.stuffing.proofs.Steps.{no_room_added, room_added}
 use Rattle.stuffing.proofs.has_room_added.Goals as goal
 
@@ -9,6 +7,3 @@ returns-then-room-rbsp c = no_room_added _ c.if-room-rbsp.true
 
 pub returns-then-rbsp-room : goal.returns-then-rbsp-room
 returns-then-rbsp-room c = room_added _ c.if-room-rbsp.false c.if-rbsp-room.true
-
-pub returns : goal.returns
-returns c = ap (λ n. leb n c.args.room) c.ebsp_length.ensures

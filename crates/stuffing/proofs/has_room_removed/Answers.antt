@@ -1,11 +1,7 @@
 -- `has_room_removed` meets its contract: removing never lengthens, so the length need not be known where the payload itself has room.
-use mathlib.Core.Path.{ap}
-use lib.Dec.{leb}
+use Rattle.std.proofs.Common.{◌∙◌, le-leb}
 use Rattle.stuffing.proofs.Steps.{room_removed}
 use Rattle.stuffing.proofs.has_room_removed.Goals as goal
 
 pub returns-then-ebsp-room : goal.returns-then-ebsp-room
-returns-then-ebsp-room c = room_removed _ c.if-ebsp-room.true
-
-pub returns : goal.returns
-returns c = ap (λ n. leb n c.args.room) c.rbsp_length.ensures
+returns-then-ebsp-room c = le-leb _ _ c.if-ebsp-room.true ∙ room_removed _ c.if-ebsp-room.true

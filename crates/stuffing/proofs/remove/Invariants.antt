@@ -1,11 +1,6 @@
-use Prim.Native.Nat.{◌-◌}
-use lib.ListN.{length}
 use Rattle.stuffing.specs.Machine.{zeros_in}
 use Rattle.stuffing.proofs.Steps.{Removing}
 use Rattle.stuffing.proofs.remove.Given as goal
 
-abbrev pub invariant-loop-i : goal.invariant-loop-i
-invariant-loop-i l = Removing l.ebsp l.initial.out l.out l.i l.n (zeros_in l.before l.last)
-
-abbrev pub decreases-loop-i : goal.decreases-loop-i
-decreases-loop-i l = length l.ebsp - l.i
+abbrev pub invariant-loop-b : goal.invariant-loop-b
+invariant-loop-b l = Removing l.ebsp l.initial.out l.out l.b-index l.n (zeros_in l.before l.last)

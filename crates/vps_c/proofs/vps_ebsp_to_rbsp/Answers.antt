@@ -1,11 +1,12 @@
 -- `vps_ebsp_to_rbsp` meets its contract, case by case of the answer.
 use mathlib.Core.Path.{sym, ap, ◌∙◌}
-use Rattle.stuffing.specs.Answers.{stuffed_answer}
+use Rattle.refusals.specs.Answer.Answer.{refusal}
+use Rattle.refusals.specs.Refusals.{answer_of}
 use Rattle.vps_c.specs.Calls.{tells_success, tells_refusal}
 use Rattle.vps_c.proofs.vps_ebsp_to_rbsp.Goals as goal
 
-pub returns-in-Done : goal.returns-in-Done
-returns-in-Done c = record { tells = tells_success (sym (ap stuffed_answer c.in-Done.is) ∙ c.ebsp_to_rbsp.ensures.answered); output_after = c.ebsp_to_rbsp.ensures.left }
+pub returns-in-Ok : goal.returns-in-Ok
+returns-in-Ok c = record { tells = tells_success (sym (ap answer_of c.in-Ok.is) ∙ c.ebsp_to_rbsp.ensures.answered); output_after = c.ebsp_to_rbsp.ensures.left }
 
-pub returns-in-Refused : goal.returns-in-Refused
-returns-in-Refused c = record { tells = tells_refusal (sym (ap stuffed_answer c.in-Refused.is) ∙ c.ebsp_to_rbsp.ensures.answered); output_after = c.ebsp_to_rbsp.ensures.left }
+pub returns-in-Err : goal.returns-in-Err
+returns-in-Err c = record { tells = tells_refusal (ap refusal c.number.ensures ∙ sym (ap answer_of c.in-Err.is) ∙ c.ebsp_to_rbsp.ensures.answered); output_after = c.ebsp_to_rbsp.ensures.left }

@@ -1,7 +1,6 @@
--- `extension_bits` meets its contract: none without the flag.
+-- None without the flag.
+use Rattle.std.proofs.Common.{refl, eq-eqb, ne_eqb}
 use Rattle.vps_definition.specs.Reading.{extension_bits}
-use borrow.Author.Tests.{eq-eqb, ne_eqb}
-use mathlib.Core.Path.{refl}
 use Rattle.vps_reader.proofs.extension_bits.Goals as goal
 
 pub returns-then-flag-eq0 : goal.returns-then-flag-eq0

@@ -1,37 +1,35 @@
--- `measure` meets its contract: the table, the extension and the trailing bits, each refused by its number.
-use mathlib.Core.Path.{sym, ap, ◌∙◌}
-use native.Mathlib.Omega.{arith}
-use Rattle.bit_reader.specs.Answers.{moved_answer}
-use Rattle.vps_reader.specs.Measures.{first, table_read, table_refused, table_stored, limited_short, limited_long, end_near, ended_refused}
+-- The table, the extension and the trailing bits, each refused by its number.
+use Rattle.std.proofs.Common.{ap, sym, ◌∙◌, arith, rules}
+use Rattle.refusals.specs.Refusals.{answer_of}
+use Rattle.vps_definition.specs.Reading.{extension_bits, refuses}
+use Rattle.vps_reader.specs.Measures.{table_refused, limited_short, limited_long, end_near, ended_refused}
 use Rattle.vps_reader.proofs.measure.Goals as goal
 
 pub returns-then-bytes-gt-MOST_RBSP_BYTES : goal.returns-then-bytes-gt-MOST_RBSP_BYTES
 returns-then-bytes-gt-MOST_RBSP_BYTES c = limited_long _ (omega (arith, c.if-bytes-gt-MOST_RBSP_BYTES.true))
 
-pub returns-then-next-ne0 : goal.returns-then-next-ne0
-returns-then-next-ne0 c = limited_short _ (omega (arith, c.if-bytes-gt-MOST_RBSP_BYTES.false)) ∙ table_refused (first c.new.ensures) c.read_vps-whole.ensures c.if-next-ne0.true
+pub returns-in_err-table : goal.returns-in_err-table
+returns-in_err-table c = let b = limited_short c.args.bytes.now (omega (arith, c.if-bytes-gt-MOST_RBSP_BYTES.false)) ∙ table_refused c.in_err-table.ensures in search (rules, b)
 
-pub overflow_add-next : goal.overflow_add-next
-overflow_add-next c =
-    let T = table_read (first c.new.ensures) c.read_vps-whole.ensures (omega (arith, c.if-next-ne0.false)) in
-    omega (arith, end_near (omega (arith, c.if-bytes-gt-MOST_RBSP_BYTES.false)) T (c.extension_bits-count.ensures (omega (arith, c.if-bytes-gt-MOST_RBSP_BYTES.false))))
+pub overflow_add-table : goal.overflow_add-table
+overflow_add-table c =
+    let l = c.if-bytes-gt-MOST_RBSP_BYTES.false in
+    omega (arith, end_near (omega (arith, l)) c.in_ok-table.ensures.table (c.extension_bits-count.ensures (omega (arith, l)) ∙ ap (λ f. extension_bits f c.args.bytes.now c.in_ok-table.table.at) c.extension_flag.ensures))
 
-pub returns-in-To : goal.returns-in-To
-returns-in-To c =
-    let T = table_read (first c.new.ensures) c.read_vps-whole.ensures (omega (arith, c.if-next-ne0.false)) in
-    let e = c.extension_bits-count.ensures (omega (arith, c.if-bytes-gt-MOST_RBSP_BYTES.false)) in
+pub returns-in_err-bits : goal.returns-in_err-bits
+returns-in_err-bits c =
+    let l = c.if-bytes-gt-MOST_RBSP_BYTES.false in
+    let T = c.in_ok-table.ensures.table in
+    let e = c.extension_bits-count.ensures (omega (arith, l)) ∙ ap (λ f. extension_bits f c.args.bytes.now c.in_ok-table.table.at) c.extension_flag.ensures in
+    let b = limited_short c.args.bytes.now (omega (arith, l)) ∙ ended_refused T e (sym (c.in_err-bits.ensures (end_near (omega (arith, l)) T e))) in
+    search (rules, b)
+
+pub returns : goal.returns
+returns c =
+    let l = c.if-bytes-gt-MOST_RBSP_BYTES.false in
+    let T = c.in_ok-table.ensures.table in
+    let e = c.extension_bits-count.ensures (omega (arith, l)) ∙ ap (λ f. extension_bits f c.args.bytes.now c.in_ok-table.table.at) c.extension_flag.ensures in
     record {
-      found = record {
-        short = omega (arith, c.if-bytes-gt-MOST_RBSP_BYTES.false);
-        table = T;
-        extension = e;
-        ends = sym (c.read_end.ensures (end_near (omega (arith, c.if-bytes-gt-MOST_RBSP_BYTES.false)) T e)) ∙ ap moved_answer c.in-To.is;
-      };
-      stored = table_stored (first c.new.ensures) c.read_vps-whole.ensures T;
+      found = record { short = omega (arith, l); table = T; extension = e; ends = sym (c.in_ok-bits.ensures (end_near (omega (arith, l)) T e)) };
+      stored = c.in_ok-table.ensures.stored;
     }
-
-pub returns-in-Refused : goal.returns-in-Refused
-returns-in-Refused c =
-    let T = table_read (first c.new.ensures) c.read_vps-whole.ensures (omega (arith, c.if-next-ne0.false)) in
-    let e = c.extension_bits-count.ensures (omega (arith, c.if-bytes-gt-MOST_RBSP_BYTES.false)) in
-    limited_short _ (omega (arith, c.if-bytes-gt-MOST_RBSP_BYTES.false)) ∙ ended_refused T e (sym (c.read_end.ensures (end_near (omega (arith, c.if-bytes-gt-MOST_RBSP_BYTES.false)) T e)) ∙ ap moved_answer c.in-Refused.is)

@@ -1,20 +1,17 @@
--- `parse_by_way_of` meets its contract: what the first pass found decides.
-use borrow.Author.Rules.{rules}
+-- What the first pass found decides.
+use Rattle.std.proofs.Common.{ap, ◌∙◌, Err}
+use Rattle.std.proofs.lemmas.Result.{err_from_is_err_and}
+use Rattle.vps_reader.specs.Measures.{found_most}
 use Rattle.vps_reader.specs.Answers.{answers_refused}
-use Rattle.vps_reader.specs.Measures.{measured_read, measured_refused, found_most}
 use Rattle.vps_reader.proofs.parse_by_way_of.Goals as goal
 
+pub returns-in_err-measured : goal.returns-in_err-measured
+returns-in_err-measured c =
+    let p = err_from_is_err_and c.from_residual.result c.from_residual.ensures.1 in
+    rw (p.1 ∙ ap Err p.2) (answers_refused c.args.bytes.now _ c.in_err-measured.ensures)
+
 pub fill_where_room-requires : goal.fill_where_room-requires
-fill_where_room-requires c = found_most (measured_read c.measure.ensures c.in-Read.is).found
+fill_where_room-requires c = found_most c.in_ok-measured.ensures.found
 
-pub returns-in-Refused : goal.returns-in-Refused
-returns-in-Refused c = answers_refused _ _ (measured_refused _ _ _ c.measure.ensures c.in-Refused.is)
-
-pub shape_of-small-in-Read : goal.shape_of-small-in-Read
-shape_of-small-in-Read c = search (rules, c.measure, c.fill_where_room)
-
-pub shape_of-record : goal.shape_of-record
-shape_of-record c = search (rules, c.measure, c.fill_where_room)
-
-pub returns-in-Read : goal.returns-in-Read
-returns-in-Read c = c.fill_where_room.ensures _ (measured_read c.measure.ensures c.in-Read.is)
+pub returns : goal.returns
+returns c = c.fill_where_room.ensures _ c.in_ok-measured.ensures

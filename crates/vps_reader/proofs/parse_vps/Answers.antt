@@ -9,11 +9,5 @@ returns-then-unit-lt2 c = gives_short _ _ _ c.if-unit-lt2.true
 pub returns-then-unit-ne-VPS_NUT : goal.returns-then-unit-ne-VPS_NUT
 returns-then-unit-ne-VPS_NUT c = gives_other _ _ _ c.if-unit-lt2.false c.if-unit-ne-VPS_NUT.true
 
-pub shape_of-work : goal.shape_of-work
-shape_of-work c = search (rules, c.parse_payload)
-
-pub shape_of-record : goal.shape_of-record
-shape_of-record c = search (rules, c.parse_payload)
-
 pub returns : goal.returns
 returns c = gives_payload _ _ _ c.if-unit-lt2.false c.if-unit-ne-VPS_NUT.false c.parse_payload.ensures

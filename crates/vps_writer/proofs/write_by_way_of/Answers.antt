@@ -1,37 +1,18 @@
--- `write_by_way_of` meets its contract: 31, then 32, then the unit's bytes, copied or put out again.
+-- 31, then 32, then the unit's bytes, copied or put out again.
+use Rattle.std.specs.Prelude.{ℕ, List, ◌++◌, drop}
+use Rattle.std.proofs.Common.{ap, rules}
 use Rattle.vps_writer.specs.Write.{writes_refused, writes_narrow, writes_copied, writes_again}
-use borrow.Author.Rules.{rules}
 use Rattle.vps_writer.proofs.write_by_way_of.Goals as goal
 
-pub shape_of-small-then-found : goal.shape_of-small-then-found
-shape_of-small-then-found c = search (rules, c.put_unit-found)
+pub returns-in_err-length : goal.returns-in_err-length
+returns-in_err-length c = let W = writes_refused c.args.record.now c.args.output.now c.in_err-length.ensures in search (rules, W)
 
-pub returns-then-found : goal.returns-then-found
-returns-then-found c = writes_refused _ _ (c.put_unit-found.ensures.refused c.if-found.true)
+pub returns-then-output-length : goal.returns-then-output-length
+returns-then-output-length c = writes_narrow _ _ c.args.small.now c.in_ok-length.ensures c.if-output-length.true
 
-pub shape_of-small-then-output-found : goal.shape_of-small-then-output-found
-shape_of-small-then-output-found c = search (rules, c.put_unit-found)
-
-pub returns-then-output-found : goal.returns-then-output-found
-returns-then-output-found c = writes_narrow _ _ c.args.small.now (c.put_unit-found.ensures.good c.if-found.false) c.if-output-found.true
-
-pub copy-requires : goal.copy-requires
-copy-requires c = (c.if-found-small.true, c.if-output-found.false)
-
-pub shape_of-small-then-found-small : goal.shape_of-small-then-found-small
-shape_of-small-then-found-small c = search (rules, c.put_unit-found, c.copy)
-
-pub shape_of-output-then-found-small : goal.shape_of-output-then-found-small
-shape_of-output-then-found-small c = search (rules, c.put_unit-found, c.copy)
-
-pub returns-then-found-small : goal.returns-then-found-small
-returns-then-found-small c = writes_copied _ _ c.args.small.now (c.put_unit-found.ensures.good c.if-found.false) c.if-found-small.true c.if-output-found.false c.copy.ensures
-
-pub shape_of-small : goal.shape_of-small
-shape_of-small c = search (rules, c.put_unit-found, c.put_unit)
-
-pub shape_of-output : goal.shape_of-output
-shape_of-output c = search (rules, c.put_unit-found, c.put_unit)
+pub returns-then-length-small : goal.returns-then-length-small
+returns-then-length-small c =
+    writes_copied _ _ c.args.small.now c.in_ok-length.ensures c.if-length-small.true c.if-output-length.false (ap (λ (l : List ℕ). l ++ drop c.in_ok-length.length c.args.output.now) c.copy_from_slice.ensures.after)
 
 pub returns : goal.returns
-returns c = writes_again _ _ c.args.small.now (c.put_unit-found.ensures.good c.if-found.false) c.if-output-found.false c.put_unit.ensures
+returns c = writes_again _ _ c.args.small.now c.in_ok-length.ensures c.if-output-length.false c.put_unit-2.ensures

@@ -1,25 +1,23 @@
 -- `put_answer` meets its contract, case by case.
-use mathlib.Core.Path.{sym, ap}
-use native.Mathlib.Omega.{arith}
-use Rattle.vps_reader.specs.Parse.{Parse}
+use Rattle.std.specs.Prelude.{Result}
+use Rattle.std.proofs.Common.{ℕ, take, sym, ap, ◌∙◌}
+use Rattle.std.proofs.lemmas.List.{take_min}
+use Rattle.refusals.specs.Refusals.{number_of}
 use Rattle.vps_reader.specs.Answers.{parsed_answer}
-use Rattle.texts.specs.Text.{puts_then, puts_same}
-use Rattle.vps_show.specs.Shown.{shown, record_text, first_part}
+use Rattle.vps_reader.specs.declared.parsed.Parsed.{Parsed}
+use Rattle.vps_reader.specs.declared.parsed.NotParsed.{NotParsed}
+use Rattle.texts.specs.Adds.{adds_same, adds_then}
+use Rattle.vps_show.specs.Shown.{ok_text, refused_text, record_text, shown, shown_refused}
 use Rattle.vps_show.proofs.shown.put_answer.Goals as goal
 
-pub slice_bounds-put_record-count : goal.slice_bounds-put_record-count
-slice_bounds-put_record-count c = omega arith
+pub returns-in-Ok : goal.returns-in-Ok
+unfolding shown ok_text
+returns-in-Ok c =
+    adds_same (sym (ap (λ (a : Result Parsed NotParsed). shown (parsed_answer a) c.args.«record».now) c.in-Ok.is))
+    (adds_then c.put_count.ensures (adds_same (ap record_text (ap (λ (k : ℕ). take k c.args.«record».now) c.min.ensures ∙ take_min _ c.args.«record».now)) c.put_record.ensures))
 
-pub returns-in-Accepted : goal.returns-in-Accepted
-unfolding shown
-returns-in-Accepted c =
-    puts_same (sym (ap (λ (a : Parse). shown a c.args.«record».now) (ap parsed_answer c.in-Accepted.is)))
-    (puts_then c.put_ok-next.ensures (puts_same (ap record_text (first_part c.args.«record».now _ c.least-end.ensures)) c.put_record.ensures))
-
-pub returns-in-TooShort : goal.returns-in-TooShort
-unfolding shown
-returns-in-TooShort c = puts_same (sym (ap (λ (a : Parse). shown a c.args.«record».now) (ap parsed_answer c.in-TooShort.is))) c.put_refused.ensures
-
-pub returns-in-Refused : goal.returns-in-Refused
-unfolding shown
-returns-in-Refused c = puts_same (sym (ap (λ (a : Parse). shown a c.args.«record».now) (ap parsed_answer c.in-Refused.is))) c.put_refused-in-Refused.ensures
+pub returns-in-Err : goal.returns-in-Err
+unfolding refused_text
+returns-in-Err c =
+    let number = c.from.ensures ∙ c.number-number.ensures ∙ ap number_of c.refusal.ensures in
+    adds_same (ap refused_text number ∙ shown_refused _ _ ∙ sym (ap (λ (a : Result Parsed NotParsed). shown (parsed_answer a) c.args.«record».now) c.in-Err.is)) c.put_count-in-Err.ensures

@@ -1,7 +1,8 @@
 -- `put_line` meets its contract.
-use Rattle.texts.specs.Text.{puts_then, puts_same}
-use Rattle.vps_show.specs.Shown.{part_spaced}
+use Rattle.std.proofs.Common.{ap}
+use Rattle.texts.specs.Adds.{adds_same, adds_then}
+use Rattle.vps_show.specs.Shown.{spaced}
 use Rattle.vps_show.proofs.shown.put_line.Goals as goal
 
 pub returns : goal.returns
-returns c = puts_then (puts_then c.put-named.ensures (puts_same (part_spaced _ _ c.start_of.ensures c.end_of.ensures) c.put_numbers-listed.ensures)) c.put.ensures
+returns c = adds_then (adds_then (adds_same c.as_bytes.ensures.value c.put.ensures) (adds_same (ap spaced c.section.ensures) c.put_numbers.ensures)) c.put-2.ensures

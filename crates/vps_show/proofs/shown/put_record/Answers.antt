@@ -1,8 +1,17 @@
--- `put_record` meets its contract.
-use Rattle.texts.specs.Text.{puts_then}
-use Rattle.vps_show.specs.Shown.{record_text}
+-- `put_record` meets its contract: each line is one more of those that are put, and the names are those of the definition.
+use Rattle.std.proofs.Common.{ℕ, ◌≡◌, List, Bor, take, sym, ap, ◌∙◌, arith}
+use Rattle.std.proofs.Math.ListN.{get_or-map}
+use Rattle.texts.specs.Adds.{adds_same, adds_none, adds_then}
+use Rattle.vps_show.specs.Shown.{names, lines, lines_none, lines_more, lines_are}
 use Rattle.vps_show.proofs.shown.put_record.Goals as goal
 
+pub loop-k-init : goal.loop-k-init
+loop-k-init c = adds_same (sym (lines_none _)) (adds_none _)
+
+pub loop-k-preserved : goal.loop-k-preserved
+loop-k-preserved c =
+    let put = rw (← get_or-map (λ (w : Bor (List ℕ)). w.now)) at c.put_line.ensures in
+    adds_same (lines_more names _ _ (omega arith)) (adds_then c.loop-k.invariant put)
+
 pub returns : goal.returns
-unfolding record_text
-returns c = puts_then c.put_first_lines-next.ensures c.put_last_lines.ensures
+returns c = let all : c.loop-k.k ≡ 9 = omega arith in adds_same (ap (λ (k : ℕ). lines (take k names) c.args.«record».now 0) all ∙ lines_are _) c.loop-k.invariant

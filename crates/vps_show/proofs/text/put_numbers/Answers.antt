@@ -1,21 +1,14 @@
--- `put_numbers` meets its contract: in each turn, what is put with what is left gives the whole; ten digits are enough for a number of 32 bits.
-use Prim.Native.Nat.{ℕ}
-use mathlib.Core.Path.{ap, ◌∙◌}
-use mathlib.Core.List.{List, ◌∷◌}
-use native.Mathlib.Omega.{arith}
-use Rattle.texts.specs.Text.{puts_same}
+-- `put_numbers` meets its contract: each number is one more of those that are put; ten digits are enough for one of 32 bits.
+use Rattle.std.proofs.Common.{ℕ, List, ◌∷◌, sym, ap, ◌∙◌, arith}
+use Rattle.texts.specs.Adds.{adds_same, adds_none, adds_then}
 use Rattle.text_numbers.specs.Decimal.{decimal, decimal_ten}
-use Rattle.vps_show.specs.Shown.{listing_start, listing_turn, listing_stop, listing_done}
+use Rattle.vps_show.specs.Shown.{spaced_none, spaced_more}
 use Rattle.vps_show.proofs.text.put_numbers.Goals as goal
 
-pub loop-i-init : goal.loop-i-init
-loop-i-init c = listing_start _ _ _ _ _
+pub loop-n-init : goal.loop-n-init
+loop-n-init c = adds_same (sym spaced_none) (adds_none _)
 
-pub returns-then-numbers-i : goal.returns-then-numbers-i
-returns-then-numbers-i c = listing_stop c.loop-i.invariant c.if-numbers-i.true
-
-pub loop-i-preserved : goal.loop-i-preserved
-loop-i-preserved c = listing_turn c.loop-i.invariant c.loop-i-test.true c.if-numbers-i.false (puts_same (ap (λ (n : ℕ). 32 ∷ decimal n) c.wide.ensures ∙ ap (λ (x : List ℕ). 32 ∷ x) (decimal_ten _ (omega (arith, c.type_inv.numbers c.loop-i.i)))) c.put_number-next.ensures)
-
-pub returns : goal.returns
-returns c = listing_done c.loop-i.invariant c.loop-i-test.false
+pub loop-n-preserved : goal.loop-n-preserved
+loop-n-preserved c =
+    let number = adds_same (ap (λ (n : ℕ). 32 ∷ decimal n) c.from.ensures ∙ ap (λ (x : List ℕ). 32 ∷ x) (decimal_ten _ (omega (arith, c.type_inv.numbers c.loop-n.n-index)))) c.put_number.ensures in
+    adds_same (spaced_more _ _ c.loop-n-test.true) (adds_then c.loop-n.invariant number)

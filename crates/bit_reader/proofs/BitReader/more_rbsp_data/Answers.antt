@@ -1,0 +1,13 @@
+-- The two cases of the definition.
+use Rattle.std.proofs.lemmas.Result.{err_from_is_err_and}
+use Rattle.bits.specs.Reading.{ask_more_data}
+use Rattle.bit_reader.proofs.Places.{near, far, handed_on, asks_not}
+use Rattle.bit_reader.proofs.BitReader.more_rbsp_data.Goals as goal
+
+pub returns-in_err-at : goal.returns-in_err-at
+unfolding ask_more_data
+returns-in_err-at c = asks_not (rw (far c.in_err-at.ensures.1)) (handed_on (err_from_is_err_and _ c.from_residual.ensures.1) c.in_err-at.ensures.0)
+
+pub returns : goal.returns
+unfolding ask_more_data
+returns c = rw (near c.in_ok-at.ensures.1, c.more_data.ensures, c.in_ok-at.ensures.0)

@@ -1,2 +1,0 @@
-pub mod Readings
-pub mod Headers

@@ -1,0 +1,244 @@
+// Reads along a syntax table: from an RBSP into a lent record, which takes the table's numbers as they come.
+#![tactic(auto)]
+
+use bit_reader::BitReader;
+use refusals::Refusal;
+use table_steps::{Parts, Steps};
+
+// A reading: the RBSP and the place among its bits, the lent record and the place of its next number. Numbers behind the
+// record's end are counted and not stored.
+#[derive(Drop)]
+pub struct Reading<'a> {
+    pub bytes: &'a [u8],
+    pub rec: &'a mut [u32],
+    pub at: usize,
+    pub n: usize,
+}
+
+impl<'a> Reading<'a> {
+    ghost use Rattle.std.specs.Prelude.{◌≡◌, ◌+◌, ◌*◌, ◌<◌, set};
+    ghost use Rattle.bits.specs.Bits.{field_at, field_width};
+    ghost use Rattle.bits.specs.Code.{code_at};
+    ghost use Rattle.reading.specs.Fits.{Room, limit};
+    ghost use Rattle.reading.specs.Steps.{Reaches, Stands, Coded};
+
+    // Places and numbers from here on are never reached: every table stays far below.
+    pub const LIMIT: usize = 0x4000_0000_0000_0000;
+
+    // At the RBSP's first bit, with the record's next number.
+    pub fn new(bytes: &'a [u8], rec: &'a mut [u32], n: usize) -> Reading<'a>
+        ensures bytes { result.bytes ≡ bytes.entry }
+        ensures name { result.rec.ghost_name ≡ rec.entry.ghost_name }
+        ensures rec { result.rec.now ≡ rec.old }
+        ensures at { result.at ≡ 0 }
+        ensures n { result.n ≡ n }
+    {
+        Reading {
+            bytes,
+            rec,
+            at: 0,
+            n,
+        }
+    }
+
+    // Refuses a step from the limit on.
+    fn reach(&self) -> Result<(), Refusal>
+        ensures { Reaches self.now result }
+    {
+        if self.at < Reading::LIMIT && self.n < Reading::LIMIT {
+            Ok(())
+        } else {
+            Err(Refusal::NotWellFormed)
+        }
+    }
+
+    // The next field of a width up to 32, and past it.
+    fn pass(&mut self, width: u32) -> u32
+        requires { self.old.at < limit }
+        ensures value { result ≡ field_at self.old.bytes.now self.old.at (field_width width) }
+        ensures stands { Stands self.old self.new (self.old.at + field_width width) self.old.n self.old.rec.now }
+    {
+        let at = self.at;
+        self.at = at + width.min(32) as usize;
+        bit_fields::field_at(self.bytes, at, width)
+    }
+
+    // Stores the record's next number.
+    fn push(&mut self, v: u32)
+        requires { self.old.n < 2 * limit }
+        ensures { Stands self.old self.new self.old.at (self.old.n + 1) (set self.old.rec.now self.old.n v) }
+    {
+        if self.n < self.rec.len() {
+            self.rec[self.n] = v;
+        }
+        self.n += 1;
+    }
+
+    // The next code, and past it.
+    fn code(&mut self) -> Result<u32, Refusal>
+        requires { self.old.at < limit }
+        ensures { Coded self.old result self.new }
+    {
+        let mut reader = BitReader::at(self.bytes, self.at);
+        let v = reader.ue()?;
+        self.at = reader.bit_pos;
+        Ok(v)
+    }
+}
+
+impl Reading<'_> {
+    ghost use Rattle.std.specs.Prelude.{ℕ, ◌≡◌, ◌<◌, ◌≤◌, List, Ok};
+    ghost use Rattle.bits.specs.Bits.{ones_at};
+    ghost use Rattle.vps_definition.specs.ProfileTierLevel.{reversed};
+    ghost use Rattle.reading.specs.Fits.{limit};
+    ghost use Rattle.reading.specs.Meets.{Meets};
+    ghost use Rattle.reading.specs.Reversed.{falling_at};
+
+    // How many of the next bits are ones.
+    fn ones(&self, count: u32) -> u32
+        requires { self.now.at < limit }
+        ensures { result ≡ ones_at self.now.bytes.now self.now.at count }
+    {
+        let mut ones = 0;
+        for j in 0..count {
+            ones += bit_fields::bit_at(self.bytes, self.at + j as usize);
+        }
+        ones
+    }
+
+    // Fields of a width, coded last first and stored first first, and past them.
+    fn reverse(&mut self, count: u32, width: u32)
+        requires at { self.old.at < limit }
+        requires n { self.old.n < limit }
+        requires width { width ≤ 8 }
+        ensures { Meets (List ℕ) (reversed count width) self.old (Ok (falling_at self.old.bytes.now self.old.at count width)) self.new }
+    {
+        let at = self.at;
+        for i in 0..count {
+            let place = at + (count - 1 - i) as usize * width as usize;
+            self.push(bit_fields::field_at(self.bytes, place, width));
+        }
+        self.at = at + count as usize * width as usize;
+    }
+}
+
+impl Steps for Reading<'_> {
+    ghost use Rattle.reading.specs.Meets.{Meets, Marked};
+    ghost use Rattle.reading.specs.Laws.{place_of, laws};
+
+    ghost place = { place_of };
+
+    ghost goes = { Meets };
+
+    ghost marked = { Marked };
+
+    ghost laws = { laws };
+
+    fn place(&self) -> usize {
+        self.n
+    }
+
+    fn u(&mut self, width: u32) -> Result<u32, Refusal> {
+        self.reach()?;
+        let v = self.pass(width);
+        self.push(v);
+        Ok(v)
+    }
+
+    fn u_minus1(&mut self) -> Result<u32, Refusal> {
+        self.reach()?;
+        let v = self.pass(8) + 1;
+        self.push(v);
+        Ok(v)
+    }
+
+    fn ue(&mut self) -> Result<u32, Refusal> {
+        self.reach()?;
+        let v = self.code()?;
+        self.push(v);
+        Ok(v)
+    }
+
+    fn ue_minus1(&mut self) -> Result<u32, Refusal> {
+        self.reach()?;
+        let v = self.code()? + 1;
+        self.push(v);
+        Ok(v)
+    }
+
+    fn infer(&mut self, v: u32) -> Result<u32, Refusal> {
+        self.reach()?;
+        self.push(v);
+        Ok(v)
+    }
+
+    fn general(&mut self, i: usize, width: u32) -> Result<u32, Refusal> {
+        self.reach()?;
+        Ok(self.pass(width))
+    }
+
+    fn layers_minus1(&mut self) -> Result<u32, Refusal> {
+        self.reach()?;
+        Ok(self.pass(6))
+    }
+
+    fn align(&mut self, refusal: Option<Refusal>) -> Result<(), Refusal> {
+        self.reach()?;
+        let bits = self.pass(((8 - self.at % 8) % 8) as u32);
+        let Some(refusal) = refusal else {
+            return Ok(());
+        };
+        if bits == 0 { Ok(()) } else { Err(refusal) }
+    }
+
+    fn check(&self, holds: bool, refusal: Refusal) -> Result<(), Refusal> {
+        if holds { Ok(()) } else { Err(refusal) }
+    }
+}
+
+impl Parts for Reading<'_> {
+    ghost use Rattle.std.specs.Prelude.{⊤};
+
+    // The heads of slots stand where the reading stands.
+    ghost stands = { λ i s slot. ⊤ };
+
+    fn first_slot(&self) -> usize {
+        self.n
+    }
+
+    fn next_slot(&self, slot: usize) -> usize {
+        slot
+    }
+
+    fn slot_number(&mut self, _slot: usize, _j: usize, width: u32) -> Result<u32, Refusal> {
+        self.reach()?;
+        Ok(self.pass(width))
+    }
+
+    // The number of the constraints that are not fixed stands 69 bits on.
+    fn constraints(&mut self) -> Result<(), Refusal> {
+        self.reach()?;
+        let length = 77 + bit_fields::field_at(self.bytes, self.at + 69, 8);
+        self.infer(length)?;
+        table_steps::fields(self, length, 1)
+    }
+
+    fn sublayer_flags(&mut self, count: u32) -> Result<u32, Refusal> {
+        if count == 0 {
+            return Ok(0);
+        }
+        self.reach()?;
+        let ones = self.ones(count);
+        self.reverse(count, 1);
+        Ok(ones)
+    }
+
+    fn sublayer_levels(&mut self, count: u32) -> Result<(), Refusal> {
+        if count == 0 {
+            return Ok(());
+        }
+        self.reach()?;
+        self.reverse(count, 8);
+        Ok(())
+    }
+}

@@ -1,0 +1,124 @@
+// A case: eight numbers, the bytes of the unit that are stored, and the numbers of the record that are stored. Of both,
+// one element is stored once and is there so many times more.
+use refusals::Refusal;
+use replay_numbers::{Content, fill_pattern, pattern};
+use vps_writer::write_vps_nal;
+
+// What the writer says: the unit's length, or the refusal's number.
+type Answer = Result<usize, u32>;
+
+// An element that is there again: its index, and how many times more.
+#[derive(Clone, Copy)]
+struct Again {
+    index: usize,
+    more: usize,
+}
+
+impl Again {
+    fn read(content: &mut Content) -> Again {
+        Again {
+            index: content.number() as usize,
+            more: content.number() as usize,
+        }
+    }
+}
+
+// A case, as it is recorded.
+#[derive(Clone, Copy)]
+struct Case<'a> {
+    answer: Answer,
+    // the lengths of the output and of the record
+    room: usize,
+    length: usize,
+    number_again: Again,
+    byte_again: Again,
+    unit: &'a [u8],
+    numbers: Content<'a>,
+}
+
+impl<'a> Case<'a> {
+    fn read(content: &'a [u8]) -> Case<'a> {
+        let mut content = Content { rest: content };
+        let number = content.number();
+        let room = content.number() as usize;
+        let length = content.number() as usize;
+        let number_again = Again::read(&mut content);
+        let byte_again = Again::read(&mut content);
+        let bytes = content.number() as usize;
+        Case {
+            answer: match number {
+                0 => Ok(bytes.saturating_add(byte_again.more)),
+                _ => Err(number),
+            },
+            room,
+            length,
+            number_again,
+            byte_again,
+            unit: content.bytes(bytes),
+            numbers: content,
+        }
+    }
+
+    // Puts the numbers into a record.
+    fn put_record(&self, record: &mut [u32]) {
+        let again = self.number_again;
+        let mut numbers = self.numbers;
+        let (before, record) = record.split_at_mut(again.index.min(record.len()));
+        put_numbers(&mut numbers, before);
+        let (same, behind) = record.split_at_mut(again.more.min(record.len()));
+        let mut here = numbers;
+        same.fill(here.number());
+        put_numbers(&mut numbers, behind);
+    }
+
+    // What stands behind the unit in an output that begins with it.
+    fn behind_unit<'b>(&self, output: &'b [u8]) -> Option<&'b [u8]> {
+        let again = self.byte_again;
+        let (before, behind) = self.unit.split_at_checked(again.index)?;
+        let (same, output) = output.strip_prefix(before)?.split_at_checked(again.more)?;
+        if same.iter().any(|byte| Some(byte) != behind.first()) {
+            return None;
+        }
+        output.strip_prefix(behind)
+    }
+
+    // Whether an output begins with the unit, or with nothing where the record is refused, and is as before behind it.
+    fn is_output_same(&self, output: &[u8]) -> bool {
+        match self.answer {
+            Ok(length) => match self.behind_unit(output) {
+                Some(behind) => is_untouched(behind, length),
+                None => false,
+            },
+            Err(_) => is_untouched(output, 0),
+        }
+    }
+
+    // Whether the writer's answer and the output are as recorded.
+    fn is_call_same(&self, record: &mut [u32], output: &mut [u8]) -> bool {
+        self.put_record(record);
+        fill_pattern(output);
+        let answer = write_vps_nal(record, output).map_err(Refusal::number);
+        answer == self.answer && self.is_output_same(output)
+    }
+}
+
+// Whether what stands in an output from an index on is as before.
+fn is_untouched(part: &[u8], from: usize) -> bool {
+    part.iter().zip(from..).all(|(byte, i)| *byte == pattern(i))
+}
+
+// Puts numbers one after the other.
+fn put_numbers(numbers: &mut Content, record: &mut [u32]) {
+    for number in record.iter_mut() {
+        *number = numbers.number();
+    }
+}
+
+// Replays a case on the beginnings of two buffers, of just the lengths recorded.
+pub fn is_same(content: &[u8], record: &mut [u32], output: &mut [u8]) -> bool {
+    let case = Case::read(content);
+    if record.len() < case.length || output.len() < case.room {
+        return false;
+    }
+    case.is_call_same(&mut record[..case.length], &mut output[..case.room])
+}

@@ -1,0 +1,5 @@
+pub mod Laws
+pub mod Answers
+pub mod Words
+pub mod Turns
+pub mod Repeats

@@ -1,0 +1,111 @@
+// The VPS's layers, read or written; the layers that each layer reaches are kept as masks.
+#![tactic(auto)]
+
+ghost use Rattle.std.specs.Prelude.{◌≡◌, List, [], ◌∷◌, ◌++◌, ℕ, ◌<◌, ◌≤◌, eqb, IfOk};
+ghost use Rattle.refusals.specs.declared.refusal.Refusal.{Refusal};
+ghost use Rattle.vps_definition.specs.Syntax.Syntax.{test};
+ghost use Rattle.vps_definition.specs.Words.{loop};
+ghost use Rattle.vps_definition.specs.Vps.{direct_reference, dependent_layer, independent_layer, layer, layers_section};
+ghost use Rattle.table_steps.specs.Answers.{Gives};
+ghost use Rattle.layer_sets.specs.References.{layers_of};
+ghost use Rattle.vps_fields.specs.Header.{header_of};
+ghost use Rattle.vps_layers.specs.Flags.{Appended, FlagsMet};
+ghost use Rattle.vps_layers.specs.Layers.{LayerMet, LayersMet};
+
+use refusals::Refusal;
+use table_steps::Steps;
+use vps_fields::Header;
+
+// Whether a layer refers to another directly, and the sublayers that it then may use.
+fn direct_reference<S: Steps>(steps: &mut S, h: Header, present: u32) -> Result<u32, Refusal>
+    ensures goes { (j : ℕ) (flags : List ℕ) → Gives S.goes (Appended flags) (direct_reference present h.max_sublayers_minus1 j flags) steps.old result steps.new }
+    ensures within { IfOk result (λ v. v < 2) }
+{
+    let flag = steps.u(1)?;
+    steps.u_if(present == 1 && flag == 1, 3, h.max_sublayers_minus1 + 1)?;
+    Ok(flag)
+}
+
+// The layers below layer i that it refers to directly.
+fn direct_references<S: Steps>(
+    steps: &mut S,
+    h: Header,
+    present: u32,
+    i: usize,
+) -> Result<u64, Refusal>
+    requires { i ≤ 64 }
+    ensures { Gives S.goes (FlagsMet i) (loop (direct_reference present h.max_sublayers_minus1) i 0 []) steps.old result steps.new }
+{
+    let mut mask = 0;
+    for j in 0..i {
+        let flag = direct_reference(steps, h, present)?;
+        mask = layer_sets::with_flag(mask, flag, j);
+    }
+    Ok(mask)
+}
+
+// A layer that depends on others: it refers to one of them at least.
+fn dependent_layer<S: Steps>(steps: &mut S, h: Header, i: usize) -> Result<u64, Refusal>
+    requires { i ≤ 64 }
+    ensures { Gives S.goes (FlagsMet i) (dependent_layer h.max_sublayers_minus1 i) steps.old result steps.new }
+{
+    let present = steps.u(1)?;
+    let mask = direct_references(steps, h, present, i)?;
+    steps.check(mask != 0, Refusal::NoDirectReference)?;
+    Ok(mask)
+}
+
+// The layers that layer i refers to directly: none where it is independent.
+fn references<S: Steps>(
+    steps: &mut S,
+    h: Header,
+    independent: u32,
+    i: usize,
+) -> Result<u64, Refusal>
+    requires { i ≤ 64 }
+    ensures { Gives S.goes (FlagsMet i) (test (eqb independent 0) (dependent_layer h.max_sublayers_minus1 i) independent_layer) steps.old result steps.new }
+{
+    if independent == 0 {
+        return dependent_layer(steps, h, i);
+    }
+    steps.infer(0)?;
+    Ok(0)
+}
+
+// A layer: the least id of the next, and the layers that it refers to directly.
+#[derive(Clone, Copy)]
+struct Layer {
+    least: u32,
+    direct: u64,
+}
+
+impl Layer {
+    // Layer i, whose id is `least` at the least.
+    fn of<S: Steps>(steps: &mut S, h: Header, i: usize, least: u32) -> Result<Layer, Refusal>
+        requires { i ≤ 64 }
+        ensures { (refs : List (List ℕ)) → Gives S.goes (LayerMet i refs) (layer (header_of h) i (layers_of least refs)) steps.old result steps.new }
+    {
+        let id = steps.u(6)?;
+        steps.check(least <= id, Refusal::LayerIdsNotRising)?;
+        let independent = steps.u_if(0 < i && h.all_independent_flag == 0, 1, 1)?;
+        let direct = references(steps, h, independent, i)?;
+        Ok(Layer {
+            least: id + 1,
+            direct,
+        })
+    }
+}
+
+// All layers: the closed mask of each.
+pub fn layers<S: Steps>(steps: &mut S, h: Header) -> Result<[u64; 64], Refusal>
+    ensures { Gives S.goes (LayersMet h.layers) (layers_section (header_of h)) steps.old result steps.new }
+{
+    let mut closed = [0; 64];
+    let mut least = 0;
+    for i in 0..h.layers as usize {
+        let layer = Layer::of(steps, h, i, least)?;
+        layer_sets::close(&mut closed, layer.direct, i);
+        least = layer.least;
+    }
+    Ok(closed)
+}

@@ -1,0 +1,95 @@
+// profile_tier_level(), a slot of the PTL section, read or written.
+#![tactic(auto)]
+
+ghost use Rattle.refusals.specs.declared.refusal.Refusal.{Refusal};
+ghost use Rattle.vps_definition.specs.Words.{when};
+ghost use Rattle.vps_definition.specs.ProfileTierLevel.{constraints_if, general_constraints_info, profile_and_tier, sub_profiles, profile_tier_level};
+ghost use Rattle.vps_profile.specs.Parts.{from_sublayers, from_level};
+
+use refusals::Refusal;
+use table_steps::Parts;
+
+// What is coded of a slot before all slots.
+// As it is (1): the flag stays a number, since the record keeps it and a written record may hold any.
+#[derive(Clone, Copy)]
+pub struct SlotHead {
+    pub present: u32,
+    pub max_tid: u32,
+}
+
+// The profile and the tier, where they are present.
+fn profile_and_tier<S: Parts>(steps: &mut S, present: u32) -> Result<(), Refusal>
+    ensures { S.goes (Unit {0}) (when present profile_and_tier) steps.old result steps.new }
+{
+    if present == 0 {
+        return Ok(());
+    }
+    steps.u(7)?;
+    steps.u(1)?;
+    Ok(())
+}
+
+// The constraints where they are present, else their length 0.
+fn constraints_if<S: Parts>(steps: &mut S, present: u32) -> Result<(), Refusal>
+    ensures { S.goes (Unit {0}) (constraints_if present) steps.old result steps.new }
+{
+    if present == 0 {
+        steps.infer(0)?;
+        return Ok(());
+    }
+    steps.constraints()
+}
+
+// Whether there are constraints, they, and the bits to the boundary, where all that is present.
+fn general_constraints_info<S: Parts>(steps: &mut S, present: u32) -> Result<(), Refusal>
+    ensures { S.goes (Unit {0}) (when present general_constraints_info) steps.old result steps.new }
+{
+    if present == 0 {
+        return Ok(());
+    }
+    let flag = steps.u(1)?;
+    constraints_if(steps, flag)?;
+    steps.align(None)
+}
+
+// The sub-profiles behind their number, where they are present.
+fn sub_profiles<S: Parts>(steps: &mut S, present: u32) -> Result<(), Refusal>
+    ensures { S.goes (Unit {0}) (when present sub_profiles) steps.old result steps.new }
+{
+    if present == 0 {
+        return Ok(());
+    }
+    let count = steps.u(8)?;
+    table_steps::fields(steps, count, 32)
+}
+
+// The sublayers' flags and levels, and the sub-profiles.
+fn from_sublayers<S: Parts>(steps: &mut S, head: SlotHead) -> Result<(), Refusal>
+    ensures { S.goes (Unit {0}) (from_sublayers head.present head.max_tid) steps.old result steps.new }
+{
+    let levels = steps.sublayer_flags(head.max_tid)?;
+    steps.align(None)?;
+    steps.sublayer_levels(levels)?;
+    sub_profiles(steps, head.present)
+}
+
+// The level and the two flags behind it, the constraints, and the rest.
+fn from_level<S: Parts>(steps: &mut S, head: SlotHead) -> Result<(), Refusal>
+    ensures { S.goes (Unit {0}) (from_level head.present head.max_tid) steps.old result steps.new }
+{
+    steps.u(8)?;
+    steps.u(1)?;
+    steps.u(1)?;
+    general_constraints_info(steps, head.present)?;
+    from_sublayers(steps, head)
+}
+
+// A slot: its head, which was coded before, and profile_tier_level().
+pub fn profile_tier_level<S: Parts>(steps: &mut S, head: SlotHead) -> Result<(), Refusal>
+    ensures { S.goes (Unit {0}) (profile_tier_level head.present head.max_tid) steps.old result steps.new }
+{
+    steps.infer(head.present)?;
+    steps.infer(head.max_tid)?;
+    profile_and_tier(steps, head.present)?;
+    from_level(steps, head)
+}

@@ -1,0 +1,158 @@
+// The VPS's output layer sets, read or written, and counted by the masks of the layers.
+#![tactic(auto)]
+
+ghost use Rattle.std.specs.Prelude.{◌≡◌, List, [], ℕ, ◌+◌, ◌<◌, ◌≤◌, ◌&&◌, cond, ltb, eqb};
+ghost use Rattle.refusals.specs.declared.refusal.Refusal.{Refusal};
+ghost use Rattle.vps_definition.specs.Syntax.Syntax.{test};
+ghost use Rattle.vps_definition.specs.Words.{general_if, loop};
+ghost use Rattle.vps_definition.specs.Vps.{output_flag, row, rows_section, no_rows};
+ghost use Rattle.vps_definition.specs.OutputLayerSets as OutputLayerSets;
+ghost use Rattle.vps_definition.specs.OutputLayerSets.{digit};
+ghost use Rattle.vps_definition.specs.OutputLayerSets.Sets.{each_layer, up_to};
+ghost use Rattle.table_steps.specs.Answers.{Gives};
+ghost use Rattle.layer_sets.specs.Counted.{Known, Counted};
+ghost use Rattle.vps_fields.specs.Header.{header_of};
+ghost use Rattle.vps_layers.specs.Flags.{FlagsMet};
+ghost use Rattle.vps_sets.specs.Rows.{RowMet, RowsMet};
+ghost use Rattle.vps_sets.specs.Sets.{SetsMet, SectionMet};
+
+use refusals::Refusal;
+use table_steps::Steps;
+use vps_fields::Header;
+
+// One flag for each of n layers: whether the set gives it out.
+fn output_flags<S: Steps>(steps: &mut S, n: usize) -> Result<u64, Refusal>
+    requires { n ≤ 64 }
+    ensures { Gives S.goes (FlagsMet n) (loop output_flag n 0 []) steps.old result steps.new }
+{
+    let mut mask = 0;
+    for j in 0..n {
+        let flag = steps.u(1)?;
+        mask = layer_sets::with_flag(mask, flag, j);
+    }
+    Ok(mask)
+}
+
+// A row: it has one output layer at least.
+fn row<S: Steps>(steps: &mut S, n: usize) -> Result<u64, Refusal>
+    requires { n ≤ 64 }
+    ensures { (i : ℕ) (rows : List (List ℕ)) → Gives S.goes (RowMet n rows) (row n i rows) steps.old result steps.new }
+{
+    let mask = output_flags(steps, n)?;
+    steps.check(mask != 0, Refusal::NoOutputLayer)?;
+    Ok(mask)
+}
+
+// One more where a row has several layers.
+fn count_row(multi: u32, more: bool) -> u32
+    requires { multi < 1000 }
+    ensures { result ≡ multi + digit more }
+{
+    if more { multi + 1 } else { multi }
+}
+
+// How many sets there are, and how many have more than one layer.
+#[derive(Clone, Copy)]
+struct Counts {
+    total: u32,
+    multi: u32,
+}
+
+// The rows; each row's output layers, with all that these reach, are one or several layers.
+fn rows<S: Steps>(steps: &mut S, closed: &[u64], n: usize, count: u32) -> Result<Counts, Refusal>
+    requires { (n ≤ 64) × (count ≤ 256) }
+    ensures { Gives S.goes (RowsMet n closed.now) (loop (row n) count 0 []) steps.old result steps.new }
+{
+    let mut multi = 0;
+    for _ in 0..count {
+        let outputs = row(steps, n)?;
+        let layers = layer_sets::cover(closed, outputs, n);
+        multi = count_row(multi, layer_sets::is_multi(layers));
+    }
+    Ok(Counts {
+        total: count + 1,
+        multi,
+    })
+}
+
+// The rows behind their count.
+fn chosen<S: Steps>(steps: &mut S, closed: &[u64], h: Header) -> Result<Counts, Refusal>
+    ensures { (refs : List (List ℕ)) → Known refs closed.now h.layers → Gives S.goes (SetsMet h.layers refs) (rows_section h.layers) steps.old result steps.new }
+{
+    let count = steps.u_minus1()?;
+    rows(steps, closed, h.layers as usize, count)
+}
+
+// No rows: a 0 stands for their count.
+fn no_rows<S: Steps>(steps: &mut S, total: u32, multi: u32) -> Result<Counts, Refusal>
+    ensures { (n : ℕ) (refs : List (List ℕ)) (sets : OutputLayerSets.Sets) → Counted n refs sets total multi → Gives S.goes (SetsMet n refs) (no_rows sets) steps.old result steps.new }
+{
+    steps.infer(0)?;
+    Ok(Counts { total, multi })
+}
+
+impl Counts {
+    // The sets by the two fields before them.
+    fn of<S: Steps>(
+        steps: &mut S,
+        closed: &[u64],
+        h: Header,
+        each: u32,
+        mode: u32,
+    ) -> Result<Counts, Refusal>
+        ensures { (refs : List (List ℕ)) → Known refs closed.now h.layers → Gives S.goes (SetsMet h.layers refs) (test (eqb each 0) (test (eqb mode 2) (rows_section h.layers) (no_rows up_to)) (no_rows each_layer)) steps.old result steps.new }
+    {
+        if each != 0 {
+            no_rows(steps, h.layers, 0)
+        } else if mode == 2 {
+            chosen(steps, closed, h)
+        } else {
+            no_rows(steps, h.layers, h.layers - 1)
+        }
+    }
+}
+
+// Whether each layer is a set.
+fn each_layer_flag<S: Steps>(steps: &mut S, h: Header) -> Result<u32, Refusal>
+    ensures { S.goes ℕ (general_if (ltb 1 h.layers && eqb h.all_independent_flag 1) 5 1 (cond (eqb h.layers 1) 1 0)) steps.old result steps.new }
+{
+    let coded = 1 < h.layers && h.all_independent_flag == 1;
+    steps.general_if(coded, 5, 1, if h.layers == 1 { 1 } else { 0 })
+}
+
+// How the sets are given otherwise.
+fn mode_idc<S: Steps>(steps: &mut S, h: Header, each: u32) -> Result<u32, Refusal>
+    ensures { S.goes ℕ (general_if (eqb each 0 && eqb h.all_independent_flag 0) 6 2 2) steps.old result steps.new }
+{
+    steps.general_if(each == 0 && h.all_independent_flag == 0, 6, 2, 2)
+}
+
+// The output layer sets: how many there are in all, and how many with more than one layer; and where they start in the record.
+#[derive(Clone, Copy)]
+pub struct Sets {
+    pub each_layer_flag: u32,
+    pub mode_idc: u32,
+    pub total: u32,
+    pub multi: u32,
+    pub start: usize,
+}
+
+impl Sets {
+    // The output layer sets, by the closed masks of the layers.
+    pub fn of<S: Steps>(steps: &mut S, closed: &[u64], h: Header) -> Result<Sets, Refusal>
+        ensures { (refs : List (List ℕ)) → Known refs closed.now h.layers → SectionMet S.marked (header_of h) refs steps.old result steps.new }
+    {
+        let each_layer_flag = each_layer_flag(steps, h)?;
+        let mode_idc = mode_idc(steps, h, each_layer_flag)?;
+        steps.check(mode_idc <= 2, Refusal::ModeReserved)?;
+        let start = steps.place();
+        let counts = Counts::of(steps, closed, h, each_layer_flag, mode_idc)?;
+        Ok(Sets {
+            each_layer_flag,
+            mode_idc,
+            total: counts.total,
+            multi: counts.multi,
+            start,
+        })
+    }
+}

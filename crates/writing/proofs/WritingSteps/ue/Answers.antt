@@ -1,0 +1,7 @@
+-- The word is that of what is added to it.
+use Rattle.vps_definition.specs.Words.{ue}
+use Rattle.writing.proofs.WritingSteps.ue.Goals as goal
+
+pub returns : goal.returns
+unfolding ue
+returns c = c.code.ensures

@@ -1,0 +1,11 @@
+pub mod Emits
+pub mod Pushes
+pub mod Laws
+pub mod Marked
+pub mod Steps
+pub mod Kept
+pub mod Flags
+pub mod Constraints
+pub mod Reversed
+pub mod Groups
+pub mod Ends

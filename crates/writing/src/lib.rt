@@ -1,0 +1,250 @@
+// Writes along a syntax table: steps through a record's numbers, and pushes their bits into a lent output.
+#![tactic(auto)]
+
+ghost use Rattle.std.specs.Prelude.{◌≡◌, ◌+◌, List, [], ℕ, ◌≤◌, ◌<◌, ◌^◌, ltb, length, drop, get_or, replicate, true, IfOk};
+ghost use Rattle.bits.specs.Bits.{field_width, bits_of, to_boundary};
+ghost use Rattle.bits.specs.Code.{code_of};
+ghost use Rattle.bit_sink.specs.Holds.{limit};
+ghost use Rattle.vps_definition.specs.Syntax.Syntax.{field, code, late, done};
+ghost use Rattle.writing.specs.Emits.{Ready, Stays, Emits};
+ghost use Rattle.writing.specs.Pushes.{Takes, HasNext, Pushes};
+ghost use Rattle.writing.specs.Marked.{Marked, laws};
+
+use bit_sink::Sink;
+use record_parts::{Record, number_at};
+use refusals::Refusal;
+use table_steps::Steps;
+
+mod flags;
+mod parts;
+
+// A record and a lent output, and how far the writing is. Behind a refusal no step is owed any more.
+#[derive(Drop)]
+pub struct Writing<'a> {
+    pub rec: &'a [u32],
+    pub out: &'a mut [u8],
+    // the record's next number
+    pub c: usize,
+    pub sink: Sink,
+}
+
+// Whether a value has no more bits than a width, 32 at the most.
+#[inline]
+fn is_field(value: u32, width: u32) -> bool
+    ensures { result ≡ ltb value (2 ^ field_width width) }
+{
+    if width < 32 {
+        return value >> width == 0;
+    }
+    true
+}
+
+// A width, 32 at the most.
+#[inline]
+fn field_bits(width: u32) -> usize
+    ensures { result ≡ field_width width }
+{
+    if width < 32 {
+        return width as usize;
+    }
+    32
+}
+
+// How many bits a value's code has.
+#[inline]
+fn code_bits(value: u32) -> usize
+    ensures { value < 4294967295 → result ≡ length (code_of value) }
+{
+    if 0xffff_ffff <= value {
+        return 0;
+    }
+    2 * (31 - u32::leading_zeros(value + 1)) as usize + 1
+}
+
+// Whether a value is one that a code can hold.
+#[inline]
+fn is_code(value: u32) -> bool
+    ensures { result ≡ ltb value 4294967295 }
+{
+    value < 0xffff_ffff
+}
+
+// Whether so many bits, of a value that fits its word or not, may follow others in an RBSP.
+#[inline]
+fn takes(fits: bool, bits: usize, more: usize) -> bool
+    ensures { Takes fits bits more result }
+{
+    fits && bits <= Record::MOST_RBSP_BITS && more <= Record::MOST_RBSP_BITS - bits
+}
+
+impl<'a> Writing<'a> {
+    // Before the first bit, which goes to byte `start` of the output, with the record's next number.
+    pub fn new(rec: &'a [u32], out: &'a mut [u8], start: usize, c: usize) -> Self
+        ensures rec { result.rec.now ≡ rec.now }
+        ensures same_reference { result.out.ghost_name ≡ out.entry.ghost_name }
+        ensures unchanged { result.out.now ≡ out.old }
+        ensures c { result.c ≡ c }
+        ensures ready { start < limit → Ready start [] result out.old }
+    {
+        Self {
+            rec,
+            out,
+            c,
+            sink: Sink::new(start),
+        }
+    }
+
+    // The record from its next number on.
+    #[inline]
+    fn rest(&self) -> &'a [u32]
+        ensures { result.now ≡ drop self.now.c self.now.rec.now }
+    {
+        self.rec.get(self.c..).unwrap_or(&[])
+    }
+
+    // Pushes a field; the record's next number stays.
+    #[inline]
+    pub fn push_field(&mut self, value: u32, width: u32) -> Result<(), Refusal>
+        ensures { Pushes (ltb value (2 ^ field_width width)) (bits_of (field_width width) value) self.old result self.new }
+    {
+        if !takes(is_field(value, width), self.sink.bits, field_bits(width)) {
+            return Err(Refusal::NotWellFormed);
+        }
+        self.sink = bit_sink::put(self.out, self.sink, value, width);
+        Ok(())
+    }
+
+    // Pushes a code, likewise.
+    #[inline]
+    pub fn push_code(&mut self, value: u32) -> Result<(), Refusal>
+        ensures { Pushes (ltb value 4294967295) (code_of value) self.old result self.new }
+    {
+        if !takes(is_code(value), self.sink.bits, code_bits(value)) {
+            return Err(Refusal::NotWellFormed);
+        }
+        self.sink = bit_sink::put_code(self.out, self.sink, value);
+        Ok(())
+    }
+
+    // The record's next number, of a word that it has `plus` added to.
+    #[inline]
+    fn next_number(&self, plus: u32) -> Result<u32, Refusal>
+        ensures { HasNext plus self.now result }
+    {
+        match self.rec.get(self.c) {
+            Some(&v) if plus <= v => Ok(v),
+            _ => Err(Refusal::NotWellFormed),
+        }
+    }
+
+    // That number, as a field.
+    #[inline]
+    fn field(&mut self, plus: u32, width: u32) -> Result<u32, Refusal>
+        ensures goes { Emits (field (field_width width) plus done) self.old result self.new }
+        ensures within { IfOk result (λ v. v < 2 ^ field_width width + plus) }
+    {
+        let v = self.next_number(plus)?;
+        self.push_field(v - plus, width)?;
+        self.c += 1;
+        Ok(v)
+    }
+
+    // That number, as a code.
+    #[inline]
+    fn code(&mut self, plus: u32) -> Result<u32, Refusal>
+        ensures { Emits (code plus done) self.old result self.new }
+    {
+        let v = self.next_number(plus)?;
+        self.push_code(v - plus)?;
+        self.c += 1;
+        Ok(v)
+    }
+
+    // u(w) of a value that is kept elsewhere in the record.
+    #[inline]
+    pub fn late(&mut self, value: u32, width: u32) -> Result<u32, Refusal>
+        ensures goes { (find : List ℕ → List ℕ → ℕ) → find self.old.rec.now (drop self.old.c self.old.rec.now) ≡ value → Emits (late (field_width width) find done) self.old result self.new }
+        ensures stays { Stays self.old self.new }
+        ensures next { self.new.c ≡ self.old.c }
+        ensures same { IfOk result (λ v. v ≡ value) }
+        ensures within { IfOk result (λ v. v < 2 ^ field_width width) }
+    {
+        self.push_field(value, width)?;
+        Ok(value)
+    }
+}
+
+impl<'a> Steps for Writing<'a> {
+    ghost place = { λ s. s.c };
+
+    ghost goes = { λ A. Emits };
+
+    ghost marked = { λ A. Marked };
+
+    ghost laws = { laws };
+
+    #[inline]
+    fn place(&self) -> usize {
+        self.c
+    }
+
+    #[inline]
+    fn u(&mut self, width: u32) -> Result<u32, Refusal> {
+        self.field(0, width)
+    }
+
+    #[inline]
+    fn u_minus1(&mut self) -> Result<u32, Refusal> {
+        self.field(1, 8)
+    }
+
+    #[inline]
+    fn ue(&mut self) -> Result<u32, Refusal> {
+        self.code(0)
+    }
+
+    #[inline]
+    fn ue_minus1(&mut self) -> Result<u32, Refusal> {
+        self.code(1)
+    }
+
+    // The record must have it.
+    #[inline]
+    fn infer(&mut self, v: u32) -> Result<u32, Refusal> {
+        if self.next_number(0)? != v {
+            return Err(Refusal::NotWellFormed);
+        }
+        self.c += 1;
+        Ok(v)
+    }
+
+    #[inline]
+    fn general(&mut self, i: usize, width: u32) -> Result<u32, Refusal> {
+        self.late(number_at(self.rec, i), width)
+    }
+
+    #[inline]
+    fn layers_minus1(&mut self) -> Result<u32, Refusal> {
+        self.late(number_at(self.rec, 0).saturating_sub(1), 6)
+    }
+
+    // The bits are zeros, whatever a reader refuses.
+    #[inline]
+    fn align(&mut self, _refusal: Option<Refusal>) -> Result<(), Refusal> {
+        if !takes(true, self.sink.bits, (8 - self.sink.bits % 8) % 8) {
+            return Err(Refusal::NotWellFormed);
+        }
+        self.sink = bit_sink::put_zeros_to_boundary(self.out, self.sink);
+        Ok(())
+    }
+
+    // A record that a reader would refuse is not well formed.
+    #[inline]
+    fn check(&self, holds: bool, _refusal: Refusal) -> Result<(), Refusal> {
+        if holds {
+            Ok(())
+        } else {
+            Err(Refusal::NotWellFormed)
+        }
+    }
+}
