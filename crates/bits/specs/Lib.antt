@@ -1,4 +1,5 @@
 pub mod Bits
+pub mod Places
 pub mod Code
 pub mod Reading
 pub mod Writing

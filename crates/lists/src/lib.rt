@@ -1,3 +1,13 @@
+// Lists of numbers: the definitions and laws that crates share and the library lacks, and what stands behind the first elements
+// of a slice.
 #![tactic(auto)]
 
-// Lists of numbers: the definitions and laws that crates share and the library lacks. There is no code here.
+ghost use Rattle.std.specs.Prelude.{◌≡◌, drop};
+
+// What stands behind the first n; nothing where there are no more.
+#[inline]
+pub fn behind<T>(items: &[T], n: usize) -> &[T]
+    ensures { result.now ≡ drop n items.now }
+{
+    items.get(n..).unwrap_or_default()
+}
