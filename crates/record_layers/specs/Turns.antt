@@ -42,30 +42,22 @@ flags_turn x j mask {v} {mask'} e f g =
 
 -- ── A layer ───────────────────────────────────────────────────────────
 -- whose entry comes first
-module _ (x : List ℕ) (i : ℕ) {v : ℕ} (f : v ≡ get_or x 1 0) where
-  pub mask_dependent : {mask : ℕ} → eqb v 0 ≡ true → mask ≡ mask_of 64 (flagged (firsts i (drop 3 x))) → mask ≡ mask_of 64 (flagged (flags_in i x))
+module _ (x : List ℕ) (i : ℕ) where
+  pub mask_dependent : eqb (get_or x 1 0) 0 ≡ true → mask_of 64 (flagged (firsts i (drop 3 x))) ≡ mask_of 64 (flagged (flags_in i x))
   unfolding flags_in
-  mask_dependent e m =
-      let g : eqb (get_or x 1 0) 0 ≡ true = ap (λ (n : ℕ). eqb n 0) (sym f) ∙ e in
-      rw g m
+  mask_dependent e = rw e refl
 
-  pub mask_independent : eqb v 0 ≡ false → 0 ≡ mask_of 64 (flagged (flags_in i x))
+  pub mask_independent : eqb (get_or x 1 0) 0 ≡ false → 0 ≡ mask_of 64 (flagged (flags_in i x))
   unfolding flags_in
-  mask_independent e =
-      let g : eqb (get_or x 1 0) 0 ≡ false = ap (λ (n : ℕ). eqb n 0) (sym f) ∙ e in
-      rw g held_none.bits
+  mask_independent e = rw e held_none.bits
 
-  pub length_dependent : eqb v 0 ≡ true → entry_length i x ≡ 3 + 2 * i
+  pub length_dependent : eqb (get_or x 1 0) 0 ≡ true → 3 + 2 * i ≡ entry_length i x
   unfolding entry_length
-  length_dependent e =
-      let g : eqb (get_or x 1 0) 0 ≡ true = ap (λ (n : ℕ). eqb n 0) (sym f) ∙ e in
-      rw g refl
+  length_dependent e = rw e refl
 
-  pub length_independent : eqb v 0 ≡ false → entry_length i x ≡ 3
+  pub length_independent : eqb (get_or x 1 0) 0 ≡ false → 3 ≡ entry_length i x
   unfolding entry_length
-  length_independent e =
-      let g : eqb (get_or x 1 0) 0 ≡ false = ap (λ (n : ℕ). eqb n 0) (sym f) ∙ e in
-      rw g refl
+  length_independent e = rw e refl
 
 pub flags_short : (i : ℕ) (x : List ℕ) → length (flags_in i x) ≤ i
 unfolding flags_in

@@ -1,7 +1,7 @@
 // The layers of a lent record as masks: which layers each one refers to, and which it reaches.
 #![tactic(auto)]
 
-ghost use Rattle.std.specs.Prelude.{◌≡◌, ◌≤◌, drop};
+ghost use Rattle.std.specs.Prelude.{◌≡◌, ◌≤◌, eqb, get_or, drop};
 ghost use Rattle.vps_definition.specs.OutputLayerSets.{flagged};
 ghost use Rattle.vps_definition.specs.Layout.{firsts, flags_in, entry_length, flags_from};
 ghost use Rattle.layer_sets.specs.Masks.{mask_of};
@@ -9,46 +9,54 @@ ghost use Rattle.record_layers.specs.Turns.{Stored};
 
 use record_parts::Record;
 
-// The numbers behind the first n; none where there are no more.
-fn behind<'a>(numbers: &'a [u32], n: usize) -> &'a [u32]
-    ensures { result.now ≡ drop n numbers.now }
-{
-    numbers.get(n..).unwrap_or(&[])
+// A layer's entry, which the numbers begin with, and the layer's number.
+#[derive(Clone, Copy)]
+struct Entry<'a> {
+    numbers: &'a [u32],
+    i: usize,
+    ghost few_layers: { i ≤ 64 },
 }
 
-// The layers whose flag is 1, the first of each of i pairs.
-fn flags_mask(pairs: &[u32], i: usize) -> u64
-    requires { i ≤ 64 }
-    ensures { result ≡ mask_of 64 (flagged (firsts i pairs.now)) }
-{
-    let mut mask = 0;
-    for j in 0..i {
-        let v = record_parts::number_at(pairs, 2 * j);
-        mask = layer_sets::with_flag(mask, v, j);
+impl Entry<'_> {
+    // The layers below whose flag is 1, the first of each of i pairs.
+    fn flags_mask(&self) -> u64
+        ensures { result ≡ mask_of 64 (flagged (firsts self.now.i (drop 3 self.now.numbers.now))) }
+    {
+        let pairs = lists::behind(self.numbers, 3);
+        let mut mask = 0;
+        for j in 0..self.i {
+            let v = record_parts::number_at(pairs, 2 * j);
+            mask = layer_sets::with_flag(mask, v, j);
+        }
+        mask
     }
-    mask
-}
 
-// The layers that layer i refers to directly, whose entry comes first.
-fn direct_mask(entry: &[u32], i: usize) -> u64
-    requires { i ≤ 64 }
-    ensures { result ≡ mask_of 64 (flagged (flags_in i entry.now)) }
-{
-    if record_parts::number_at(entry, 1) == 0 {
-        return flags_mask(behind(entry, 3), i);
+    // Whether the layer depends on others.
+    fn is_dependent(&self) -> bool
+        ensures { result ≡ eqb (get_or self.now.numbers.now 1 0) 0 }
+    {
+        record_parts::number_at(self.numbers, 1) == 0
     }
-    0
-}
 
-// How many numbers the entry of layer i has.
-fn entry_length(entry: &[u32], i: usize) -> usize
-    requires { i ≤ 64 }
-    ensures { result ≡ entry_length i entry.now }
-{
-    if record_parts::number_at(entry, 1) == 0 {
-        return 3 + 2 * i;
+    // The layers that it refers to directly.
+    fn direct_mask(&self) -> u64
+        ensures { result ≡ mask_of 64 (flagged (flags_in self.now.i self.now.numbers.now)) }
+    {
+        if self.is_dependent() {
+            return self.flags_mask();
+        }
+        0
     }
-    3
+
+    // How many numbers it has.
+    fn length(&self) -> usize
+        ensures { result ≡ entry_length self.now.i self.now.numbers.now }
+    {
+        if self.is_dependent() {
+            return 3 + 2 * self.i;
+        }
+        3
+    }
 }
 
 // Stores the layers that each of n layers reaches, by the Layers section of the record: as many masks as there are places for,
@@ -57,10 +65,10 @@ pub fn layer_masks(rec: &[u32], closed: &mut [u64], n: usize)
     ensures { Stored (flags_from n 0 (drop 9 rec.now)) n closed.old closed.new }
 {
     let most = n.min(Record::MOST_LAYERS.min(closed.len()));
-    let mut rest = behind(rec, Record::GENERAL);
+    let mut numbers = lists::behind(rec, Record::GENERAL);
     for i in 0..most {
-        let mask = direct_mask(rest, i);
-        layer_sets::close(closed, mask, i);
-        rest = behind(rest, entry_length(rest, i));
+        let entry = Entry { numbers, i };
+        layer_sets::close(closed, entry.direct_mask(), i);
+        numbers = lists::behind(numbers, entry.length());
     }
 }

@@ -26,50 +26,47 @@ fn direct_reference<S: Steps>(steps: &mut S, h: Header, present: u32) -> Result<
     Ok(flag)
 }
 
-// The layers below layer i that it refers to directly.
-fn direct_references<S: Steps>(
-    steps: &mut S,
+// Which layer is coded: the first fields, and the layer's number.
+#[derive(Clone, Copy)]
+struct Place {
     h: Header,
-    present: u32,
     i: usize,
-) -> Result<u64, Refusal>
-    requires { i ≤ 64 }
-    ensures { Gives S.goes (FlagsMet i) (loop (direct_reference present h.max_sublayers_minus1) i 0 []) steps.old result steps.new }
-{
-    let mut mask = 0;
-    for j in 0..i {
-        let flag = direct_reference(steps, h, present)?;
-        mask = layer_sets::with_flag(mask, flag, j);
-    }
-    Ok(mask)
+    ghost few_layers: { i ≤ 64 },
 }
 
-// A layer that depends on others: it refers to one of them at least.
-fn dependent_layer<S: Steps>(steps: &mut S, h: Header, i: usize) -> Result<u64, Refusal>
-    requires { i ≤ 64 }
-    ensures { Gives S.goes (FlagsMet i) (dependent_layer h.max_sublayers_minus1 i) steps.old result steps.new }
-{
-    let present = steps.u(1)?;
-    let mask = direct_references(steps, h, present, i)?;
-    steps.check(mask != 0, Refusal::NoDirectReference)?;
-    Ok(mask)
-}
-
-// The layers that layer i refers to directly: none where it is independent.
-fn references<S: Steps>(
-    steps: &mut S,
-    h: Header,
-    independent: u32,
-    i: usize,
-) -> Result<u64, Refusal>
-    requires { i ≤ 64 }
-    ensures { Gives S.goes (FlagsMet i) (test (eqb independent 0) (dependent_layer h.max_sublayers_minus1 i) independent_layer) steps.old result steps.new }
-{
-    if independent == 0 {
-        return dependent_layer(steps, h, i);
+impl Place {
+    // The layers below that the layer refers to directly.
+    fn direct_references<S: Steps>(self, steps: &mut S, present: u32) -> Result<u64, Refusal>
+        ensures { Gives S.goes (FlagsMet self.i) (loop (direct_reference present self.h.max_sublayers_minus1) self.i 0 []) steps.old result steps.new }
+    {
+        let mut mask = 0;
+        for j in 0..self.i {
+            let flag = direct_reference(steps, self.h, present)?;
+            mask = layer_sets::with_flag(mask, flag, j);
+        }
+        Ok(mask)
     }
-    steps.infer(0)?;
-    Ok(0)
+
+    // A layer that depends on others: it refers to one of them at least.
+    fn dependent_layer<S: Steps>(self, steps: &mut S) -> Result<u64, Refusal>
+        ensures { Gives S.goes (FlagsMet self.i) (dependent_layer self.h.max_sublayers_minus1 self.i) steps.old result steps.new }
+    {
+        let present = steps.u(1)?;
+        let mask = self.direct_references(steps, present)?;
+        steps.check(mask != 0, Refusal::NoDirectReference)?;
+        Ok(mask)
+    }
+
+    // The layers that the layer refers to directly: none where it is independent.
+    fn references<S: Steps>(self, steps: &mut S, independent: u32) -> Result<u64, Refusal>
+        ensures { Gives S.goes (FlagsMet self.i) (test (eqb independent 0) (dependent_layer self.h.max_sublayers_minus1 self.i) independent_layer) steps.old result steps.new }
+    {
+        if independent == 0 {
+            return self.dependent_layer(steps);
+        }
+        steps.infer(0)?;
+        Ok(0)
+    }
 }
 
 // A layer: the least id of the next, and the layers that it refers to directly.
@@ -80,15 +77,15 @@ struct Layer {
 }
 
 impl Layer {
-    // Layer i, whose id is `least` at the least.
-    fn of<S: Steps>(steps: &mut S, h: Header, i: usize, least: u32) -> Result<Layer, Refusal>
-        requires { i ≤ 64 }
-        ensures { (refs : List (List ℕ)) → Gives S.goes (LayerMet i refs) (layer (header_of h) i (layers_of least refs)) steps.old result steps.new }
+    // The layer at a place, whose id is `least` at the least.
+    fn of<S: Steps>(steps: &mut S, place: Place, least: u32) -> Result<Layer, Refusal>
+        ensures { (refs : List (List ℕ)) → Gives S.goes (LayerMet place.i refs) (layer (header_of place.h) place.i (layers_of least refs)) steps.old result steps.new }
     {
         let id = steps.u(6)?;
         steps.check(least <= id, Refusal::LayerIdsNotRising)?;
-        let independent = steps.u_if(0 < i && h.all_independent_flag == 0, 1, 1)?;
-        let direct = references(steps, h, independent, i)?;
+        let may_depend = 0 < place.i && place.h.all_independent_flag == 0;
+        let independent = steps.u_if(may_depend, 1, 1)?;
+        let direct = place.references(steps, independent)?;
         Ok(Layer {
             least: id + 1,
             direct,
@@ -103,7 +100,7 @@ pub fn layers<S: Steps>(steps: &mut S, h: Header) -> Result<[u64; 64], Refusal>
     let mut closed = [0; 64];
     let mut least = 0;
     for i in 0..h.layers as usize {
-        let layer = Layer::of(steps, h, i, least)?;
+        let layer = Layer::of(steps, Place { h, i }, least)?;
         layer_sets::close(&mut closed, layer.direct, i);
         least = layer.least;
     }

@@ -11,7 +11,7 @@ loop-i-preserved c = (
       (omega (arith, c.loop-i-test.true, c.min-most.ensures))
       (omega (arith, c.loop-i-test.true, c.min-most.ensures, c.min.ensures))
       (omega (arith, c.loop-i-test.true, c.min-most.ensures, c.min.ensures, c.loop-i.invariant.1))
-      c.loop-i.invariant.2 c.direct_mask-mask.ensures c.close.ensures (search (rules, c.behind-rest-in-loop-i.ensures, c.entry_length.ensures)),
+      c.loop-i.invariant.2 c.direct_mask.ensures c.close.ensures (search (rules, c.behind-numbers-in-loop-i.ensures, c.length.ensures)),
 )
 
 pub returns : goal.returns

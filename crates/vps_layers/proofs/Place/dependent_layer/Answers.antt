@@ -4,7 +4,7 @@ use Rattle.refusals.specs.Number.{no_direct_reference}
 use Rattle.vps_definition.specs.Words.{check}
 use Rattle.vps_definition.specs.Vps.{dependent_layer}
 use Rattle.table_steps.specs.Laws.{goes_as}
-use Rattle.vps_layers.proofs.dependent_layer.Goals as goal
+use Rattle.vps_layers.proofs.Place.dependent_layer.Goals as goal
 
 pub returns-in_err-present : goal.returns-in_err-present
 unfolding dependent_layer

@@ -3,7 +3,7 @@ use Rattle.std.proofs.Common.{rules, arith, [], ne_eqb}
 use Rattle.layer_sets.specs.Flags.{held_none}
 use Rattle.vps_definition.specs.Vps.{independent_layer}
 use Rattle.table_steps.specs.Laws.{goes_no}
-use Rattle.vps_layers.proofs.references.Goals as goal
+use Rattle.vps_layers.proofs.Place.references.Goals as goal
 
 pub returns-in_err-infer : goal.returns-in_err-infer
 unfolding independent_layer
