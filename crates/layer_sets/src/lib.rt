@@ -49,13 +49,6 @@ pub fn is_multi(mask: u64) -> bool
     mask.count_ones() > 1
 }
 
-// The mask at k; none past the end.
-fn mask_at(masks: &[u64], k: usize) -> u64
-    ensures { result ≡ get_or masks.now k 0 }
-{
-    masks.get(k).copied().unwrap_or(0)
-}
-
 // The layers of the mask, and what those below n reach by their closed masks.
 pub fn cover(closed: &[u64], mask: u64, n: usize) -> u64
     ensures { result ≡ mask_of 64 (with_reached n (bit_at closed.now) (bit_of mask)) }
@@ -63,13 +56,14 @@ pub fn cover(closed: &[u64], mask: u64, n: usize) -> u64
     let mut all = mask;
     for k in 0..n {
         if has(mask, k) {
-            all = union(all, mask_at(closed, k));
+            all = union(all, closed.get(k).copied().unwrap_or(0));
         }
     }
     all
 }
 
 // Stores the closed mask of layer i, which refers directly to the layers of `direct`, where there is such a place.
+// As it is (6): i is a layer's number, under which its mask stands; it says how long nothing is.
 pub fn close(closed: &mut [u64], direct: u64, i: usize)
     ensures { closed.new ≡ set closed.old i (mask_of 64 (with_reached i (bit_at closed.old) (bit_of direct))) }
 {

@@ -38,6 +38,7 @@ impl Record {
 }
 
 // Number i of a record; 0 past the end.
+// As it is (6): the index is what is asked, and `rec.get(i).copied().unwrap_or(0)` at each caller says no more.
 pub fn number_at(rec: &[u32], i: usize) -> u32
     ensures { result ≡ get_or rec.now i 0 }
 {

@@ -78,6 +78,7 @@ pub trait Steps {
         ensures held { IfOk result (λ _. holds ≡ true) };
 
     // u(w) where it is coded, else its inferred value.
+    // As it is (5): condition, width and inferred value are the row `u_if` of the table, word for word; no function hands them on.
     final fn u_if(&mut self, coded: bool, width: u32, other: u32) -> Result<u32, Refusal>
         ensures { goes ℕ (u_if coded (field_width width) other) self.old result self.new }
     {

@@ -20,13 +20,12 @@ use refusals::Refusal;
 use table_steps::Steps;
 use vps_fields::Header;
 
-// One flag for each of n layers: whether the set gives it out.
-fn output_flags<S: Steps>(steps: &mut S, n: usize) -> Result<u64, Refusal>
-    requires { n ≤ 64 }
-    ensures { Gives S.goes (FlagsMet n) (loop output_flag n 0 []) steps.old result steps.new }
+// One flag for each layer: whether the set gives it out.
+fn output_flags<S: Steps>(steps: &mut S, h: Header) -> Result<u64, Refusal>
+    ensures { Gives S.goes (FlagsMet h.layers) (loop output_flag h.layers 0 []) steps.old result steps.new }
 {
     let mut mask = 0;
-    for j in 0..n {
+    for j in 0..h.layers as usize {
         let flag = steps.u(1)?;
         mask = layer_sets::with_flag(mask, flag, j);
     }
@@ -34,11 +33,10 @@ fn output_flags<S: Steps>(steps: &mut S, n: usize) -> Result<u64, Refusal>
 }
 
 // A row: it has one output layer at least.
-fn row<S: Steps>(steps: &mut S, n: usize) -> Result<u64, Refusal>
-    requires { n ≤ 64 }
-    ensures { (i : ℕ) (rows : List (List ℕ)) → Gives S.goes (RowMet n rows) (row n i rows) steps.old result steps.new }
+fn row<S: Steps>(steps: &mut S, h: Header) -> Result<u64, Refusal>
+    ensures { (i : ℕ) (rows : List (List ℕ)) → Gives S.goes (RowMet h.layers rows) (row h.layers i rows) steps.old result steps.new }
 {
-    let mask = output_flags(steps, n)?;
+    let mask = output_flags(steps, h)?;
     steps.check(mask != 0, Refusal::NoOutputLayer)?;
     Ok(mask)
 }
@@ -59,14 +57,14 @@ struct Counts {
 }
 
 // The rows; each row's output layers, with all that these reach, are one or several layers.
-fn rows<S: Steps>(steps: &mut S, closed: &[u64], n: usize, count: u32) -> Result<Counts, Refusal>
-    requires { (n ≤ 64) × (count ≤ 256) }
-    ensures { Gives S.goes (RowsMet n closed.now) (loop (row n) count 0 []) steps.old result steps.new }
+fn rows<S: Steps>(steps: &mut S, closed: &[u64], h: Header, count: u32) -> Result<Counts, Refusal>
+    requires { count ≤ 256 }
+    ensures { Gives S.goes (RowsMet h.layers closed.now) (loop (row h.layers) count 0 []) steps.old result steps.new }
 {
     let mut multi = 0;
     for _ in 0..count {
-        let outputs = row(steps, n)?;
-        let layers = layer_sets::cover(closed, outputs, n);
+        let outputs = row(steps, h)?;
+        let layers = layer_sets::cover(closed, outputs, h.layers as usize);
         multi = count_row(multi, layer_sets::is_multi(layers));
     }
     Ok(Counts {
@@ -80,7 +78,7 @@ fn chosen<S: Steps>(steps: &mut S, closed: &[u64], h: Header) -> Result<Counts, 
     ensures { (refs : List (List ℕ)) → Known refs closed.now h.layers → Gives S.goes (SetsMet h.layers refs) (rows_section h.layers) steps.old result steps.new }
 {
     let count = steps.u_minus1()?;
-    rows(steps, closed, h.layers as usize, count)
+    rows(steps, closed, h, count)
 }
 
 // No rows: a 0 stands for their count.

@@ -2,6 +2,7 @@
 use Prim.Native.Nat.{ℕ}
 use mathlib.Core.Path.{◌≡◌, sym, ap, ◌∙◌}
 use mathlib.Core.Bool.{◌||◌}
+use Rattle.std.specs.Prelude.{get_or}
 use native.Mathlib.Omega.{arith}
 use Rattle.layer_sets.specs.Masks.{mask_of, bit_of}
 use Rattle.layer_sets.specs.Closed.{cover_none, cover_more, cover_same}
@@ -19,9 +20,10 @@ loop-k-preserved c =
       search rules,
       elim c.if-has.branch [
         | then-has w ↦
+            let reached : w.unwrap_or.result ≡ get_or c.args.closed.now c.loop-k.k 0 = search (rules, w) in
             w.all-is
             ∙ w.union-all.ensures
-            ∙ ap (λ (x : ℕ). mask_of 64 (λ j. bit_of _ j || bit_of x j)) w.mask_at.ensures
+            ∙ ap (λ (x : ℕ). mask_of 64 (λ j. bit_of _ j || bit_of x j)) reached
             ∙ cover_more _ _ _ _ (sym has ∙ w.if-has.true) inv
         | else-has w ↦ w.all-is ∙ cover_same _ _ _ _ (sym has ∙ w.if-has.false) inv
       ],

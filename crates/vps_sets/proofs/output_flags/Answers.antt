@@ -19,7 +19,7 @@ unfolding output_flag
 loop-j-preserved g c =
     let L = g.S.Steps.laws in (
       omega (arith, c.loop-j-test.true),
-      flags_turn L _ (omega (arith, c.loop-j-test.true, c.requires)) c.in_ok-flag.ensures.within c.with_flag-mask.ensures c.loop-j.invariant.1 (λ flags. (_, refl, L.goes_then _ _ c.in_ok-flag.ensures.goes L.goes_done)),
+      flags_turn L _ (omega (arith, c.loop-j-test.true, c.args.h.few_layers)) c.in_ok-flag.ensures.within c.with_flag-mask.ensures c.loop-j.invariant.1 (λ flags. (_, refl, L.goes_then _ _ c.in_ok-flag.ensures.goes L.goes_done)),
     )
 
 pub returns : goal.returns
