@@ -14,13 +14,13 @@ use lib.Seq.{drop-cons}
 use lib.Pow.{high, low, pow_pos, pow_mono, mod-pow-add, shl_exact, shl_lt, shl-shr, shr-shr}
 use Rattle.std.specs.List.{list_any}
 use Rattle.std.proofs.Common.{nat_eq, not}
-use Rattle.refusals.specs.Answer.Answer.{success}
 use Rattle.refusals.specs.Number.{code_too_long}
 use Rattle.bits.specs.Bits.{bit_at, field_at, field_width, ones_from, to_boundary, bits_of}
-use Rattle.bits.specs.Reading.{more_data, ask_more_data}
+use Rattle.bits.specs.Reading.{more_data}
 use Rattle.bits.specs.Code.{zeros_at, code_behind, code_at}
 use Rattle.bits.specs.Code.Taken.{taken, refused}
 use Rattle.bits.specs.FieldLaws.{bit_lt, one_inside, field_lt, field_one, field_split, field_high, field_low, BitsAt, bits_right, bits_field, bits_of_zero, field_byte}
+use Rattle.bits.specs.RestLaws.{rest_ones_from}
 use Rattle.bits.specs.OneLaws.{ones_past_end, ones_behind_zeros, ones_in_field}
 use Rattle.bits.specs.CodeLaws.{zeros_to_end, zeros_past_end, zeros_all, code_at_lem}
 
@@ -211,8 +211,8 @@ module _ (s : List ℕ) (small : (k : ℕ) → get_or s k 0 < 256) where
       go true e next = byte_from i (ltb-true i (length s) e) next (nat_eq (get_or s i 0) 0) refl
       go false e next = none_from i (ltb-false i (length s) e)
 
-  pub any_one : (i : ℕ) → OneFrom i
-  any_one i = ones_up_to (length s) i (omega arith)
+  pub any_one : OneFrom 0
+  any_one = ones_up_to (length s) 0 (omega arith)
 
 -- the rest of the place's own byte, and the bytes behind it
 module _ (s : List ℕ) (at : ℕ) where
@@ -228,9 +228,9 @@ module _ (s : List ℕ) (at : ℕ) where
       let f : field_at s (at + 1) (7 - at % 8) ≡ 0 → ⊥ = λ e. n (rest_is ∙ e) in
       rw (le-leb 1 (ones_from s (at + 1)) (ones_in_field s (at + 1) (7 - at % 8) (omega (arith, f)))) refl
 
-  pub more_behind : rest ≡ 0 → ((k : ℕ) → get_or s k 0 < 256) → list_any (λ b. not (nat_eq b 0)) (drop (at / 8 + 1) s) ≡ more_data s at
+  pub more_behind : rest ≡ 0 → leb 1 (ones_from (drop (at / 8 + 1) s) 0) ≡ more_data s at
   unfolding more_data
-  more_behind z small =
+  more_behind z =
       let q : at + 1 + (7 - at % 8) ≡ 8 * (at / 8 + 1) = omega arith in
       let o : ones_from s (at + 1) ≡ ones_from s (8 * (at / 8 + 1)) = ones_behind_zeros s (at + 1) (7 - at % 8) (sym rest_is ∙ z) ∙ ap (ones_from s) q in
-      rw o (any_one s small (at / 8 + 1))
+      rw (o, rest_ones_from s (at / 8 + 1)) refl
