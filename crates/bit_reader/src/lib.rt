@@ -4,7 +4,7 @@
 ghost use Rattle.std.specs.Prelude.{◌≡◌, ◌^◌, ◌<◌, leb};
 ghost use Rattle.bits.specs.Bits.{ones_from};
 
-use bit_fields::{bit_at, field_at, window_at, window_start};
+use bit_fields::{bit_at, field_at, window_for};
 use refusals::Refusal;
 
 // A place of an RBSP, below the limit of places.
@@ -70,12 +70,11 @@ impl Place<'_> {
         ensures { code_answer result ≡ code_at self.now.bytes.now self.now.at }
     {
         let at = self.at;
-        let start = window_start(self.bytes.len(), at / 8);
-        let skipped = at - 8 * start;
+        let (window, skipped) = window_for(self.bytes, at);
         if 63 < skipped {
             return self.code_by_fields();
         }
-        let rest = window_at(self.bytes, start) << skipped;
+        let rest = window << skipped;
         let zeros = u64::leading_zeros(rest);
         if 63 - skipped < 2 * zeros as usize {
             return self.code_by_fields();
