@@ -67,6 +67,7 @@ fn field_in(window: u64, skipped: u32, width: u32) -> u32
 }
 
 // The bit at a place; 0 past the end.
+// As it is (6): a place among bits is what is asked for, and a slice can begin at a byte alone.
 pub fn bit_at(bytes: &[u8], at: usize) -> u32
     ensures { result ≡ bit_at bytes.now at }
 {
@@ -84,6 +85,7 @@ fn short_field(bytes: &[u8], skipped: u32, width: u32) -> u32
 
 // The field of a width, 32 at the most, at any place; its bits past the end are 0. Where the width is known, compilers keep
 // only its own way. A wide field stands in the window that is laid for it, or else reaches past the end.
+// As it is (6): a place among bits is what is asked for, and the window may begin before the place's byte.
 pub fn field_at(bytes: &[u8], at: usize, width: u32) -> u32
     ensures { result ≡ field_at bytes.now at (field_width width) }
 {

@@ -115,6 +115,7 @@ impl<'a> BitWriter<'a> {
     }
 
     // Zeros to the byte boundary.
+    // As it is (2): this one writes the bits and the bit reader passes over them; place and distance are those of bits for both.
     pub fn align_to_byte(&mut self) -> Result<(), Refusal>
         ensures { Writes (place_good self.old.bit_pos) (alignment_bits self.old.bit_pos) self.old result self.new }
     {

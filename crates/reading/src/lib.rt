@@ -79,7 +79,10 @@ impl<'a> Reading<'a> {
         requires { self.old.at < limit }
         ensures { Coded self.old result self.new }
     {
-        let mut reader = BitReader::at(self.bytes, self.at);
+        let mut reader = BitReader {
+            bytes: self.bytes,
+            bit_pos: self.at,
+        };
         let v = reader.ue()?;
         self.at = reader.bit_pos;
         Ok(v)
@@ -184,7 +187,7 @@ impl Steps for Reading<'_> {
 
     fn align(&mut self, refusal: Option<Refusal>) -> Result<(), Refusal> {
         self.reach()?;
-        let bits = self.pass(((8 - self.at % 8) % 8) as u32);
+        let bits = self.pass(bits::to_boundary(self.at));
         let Some(refusal) = refusal else {
             return Ok(());
         };
