@@ -1,5 +1,5 @@
 -- A step below the limit of places and one from there on, and what a reader says that moves or stays.
-use Rattle.std.proofs.Common.{ℕ, ◌≡◌, ◌<◌, ◌≤◌, ◌^◌, Bool, true, false, Result, Ok, Err, refl, ap, ◌∙◌, lt-ltb, le-ltb}
+use Rattle.std.proofs.Common.{ℕ, ◌≡◌, ◌<◌, ◌≤◌, ◌^◌, true, false, Result, Ok, Err, refl, ap, ◌∙◌, lt-ltb, le-ltb}
 use Rattle.refusals.specs.Answer.{Answer}
 use Rattle.refusals.specs.Answer.Answer.{success, refusal}
 use Rattle.refusals.specs.Refusals.{number_of, answer_of}

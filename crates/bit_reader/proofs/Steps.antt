@@ -14,13 +14,14 @@ use lib.Seq.{drop-cons}
 use lib.Pow.{high, low, pow_pos, pow_mono, mod-pow-add, shl_exact, shl_lt, shl-shr, shr-shr}
 use Rattle.std.specs.List.{list_any}
 use Rattle.std.proofs.Common.{nat_eq, not}
-use Rattle.refusals.specs.Answer.Answer.{success}
 use Rattle.refusals.specs.Number.{code_too_long}
 use Rattle.bits.specs.Bits.{bit_at, field_at, field_width, ones_from, to_boundary, bits_of}
-use Rattle.bits.specs.Reading.{more_data, ask_more_data}
+use Rattle.bits.specs.Reading.{more_data}
 use Rattle.bits.specs.Code.{zeros_at, code_behind, code_at}
 use Rattle.bits.specs.Code.Taken.{taken, refused}
 use Rattle.bits.specs.FieldLaws.{bit_lt, one_inside, field_lt, field_one, field_split, field_high, field_low, BitsAt, bits_right, bits_field, bits_of_zero, field_byte}
+use Rattle.bit_fields.specs.Window.{window_start, window_start_le}
+use Rattle.bits.specs.RestLaws.{rest_ones_from}
 use Rattle.bits.specs.OneLaws.{ones_past_end, ones_behind_zeros, ones_in_field}
 use Rattle.bits.specs.CodeLaws.{zeros_to_end, zeros_past_end, zeros_all, code_at_lem}
 
@@ -115,9 +116,8 @@ first_one s at window e n = let t = leading_top 32 window (omega arith) (omega (
 
 -- ── Codes that stand whole in a window ────────────────────────────────
 -- the window's bits from a place on, shifted to its front
-pub rest_of_window : (s : List ℕ) (i at window : ℕ) → window ≡ field_at s (8 * i) 64 → 8 * i ≤ at → at - 8 * i ≤ 63 → window * 2 ^ (at - 8 * i) % 2 ^ 64 ≡ field_at s at (64 - (at - 8 * i)) * 2 ^ (at - 8 * i)
-rest_of_window s i at window e h l =
-    let k : ℕ = at - 8 * i in
+pub rest_of_window : (s : List ℕ) (i at window k : ℕ) → window ≡ field_at s (8 * i) 64 → k ≡ at - 8 * i → 8 * i ≤ at → k ≤ 63 → window * 2 ^ k % 2 ^ 64 ≡ field_at s at (64 - k) * 2 ^ k
+rest_of_window s i at window k e q h l =
     let j : ℕ = 64 - k in
     let n : 64 ≡ j + k = omega arith in
     let m : 64 ≡ k + j = omega arith in
@@ -125,7 +125,7 @@ rest_of_window s i at window e h l =
     let low_bits : window % 2 ^ j ≡ field_at s at j = e' m ∙ field_low s (8 * i) k j ∙ rw a refl in
     ap (λ (w : ℕ). window * 2 ^ k % 2 ^ w) n ∙ mod-pow-add (window * 2 ^ k) j k ∙ rw (shl-shr window k, low_bits) (omega (arith, nothing_below k))
   where
-    e' : 64 ≡ at - 8 * i + (64 - (at - 8 * i)) → window % 2 ^ (64 - (at - 8 * i)) ≡ field_at s (8 * i) (at - 8 * i + (64 - (at - 8 * i))) % 2 ^ (64 - (at - 8 * i))
+    e' : 64 ≡ k + (64 - k) → window % 2 ^ (64 - k) ≡ field_at s (8 * i) (k + (64 - k)) % 2 ^ (64 - k)
     e' m = rw (e, ← m) refl
 
     nothing_below : (k : ℕ) → window * 2 ^ k % 2 ^ k ≡ 0
@@ -175,6 +175,15 @@ near_code s at k rest h e l = let t = leading_top 64 rest (positive rest l) smal
         let b : at + z + (z + 1) ≡ at + 2 * z + 1 = omega arith in
         record { fits = omega (arith, field_lt s (at + z) (z + 1)); some = omega (arith, o.some); code = o.code ∙ rw (y, b) refl }
 
+-- and the same of the window that is laid for the place
+pub code_in_window : (s : List ℕ) (at : ℕ) {window k : ℕ} → window ≡ field_at s (8 * window_start (length s) (at / 8)) 64 → k ≡ at - 8 * window_start (length s) (at / 8) → k ≤ 63
+    → 2 * count_leading_zeros 64 (window * 2 ^ k % 2 ^ 64) ≤ 63 - k
+    → NearCode s at (window * 2 ^ k % 2 ^ 64 / 2 ^ (63 - 2 * count_leading_zeros 64 (window * 2 ^ k % 2 ^ 64))) (count_leading_zeros 64 (window * 2 ^ k % 2 ^ 64))
+code_in_window s at {window} {k} e q h l =
+    let i = window_start (length s) (at / 8) in
+    let below : 8 * i ≤ at = omega (arith, window_start_le (length s) (at / 8)) in
+    near_code s at k (window * 2 ^ k % 2 ^ 64) h (rest_of_window s i at window k e q below h) l
+
 -- ── Trailing bits ─────────────────────────────────────────────────────
 -- behind the stop bit the boundary is as far as the byte's bits behind it
 pub behind_stop : (at : ℕ) → to_boundary (at + 1) ≡ 7 - at % 8
@@ -211,8 +220,8 @@ module _ (s : List ℕ) (small : (k : ℕ) → get_or s k 0 < 256) where
       go true e next = byte_from i (ltb-true i (length s) e) next (nat_eq (get_or s i 0) 0) refl
       go false e next = none_from i (ltb-false i (length s) e)
 
-  pub any_one : (i : ℕ) → OneFrom i
-  any_one i = ones_up_to (length s) i (omega arith)
+  pub any_one : OneFrom 0
+  any_one = ones_up_to (length s) 0 (omega arith)
 
 -- the rest of the place's own byte, and the bytes behind it
 module _ (s : List ℕ) (at : ℕ) where
@@ -228,9 +237,9 @@ module _ (s : List ℕ) (at : ℕ) where
       let f : field_at s (at + 1) (7 - at % 8) ≡ 0 → ⊥ = λ e. n (rest_is ∙ e) in
       rw (le-leb 1 (ones_from s (at + 1)) (ones_in_field s (at + 1) (7 - at % 8) (omega (arith, f)))) refl
 
-  pub more_behind : rest ≡ 0 → ((k : ℕ) → get_or s k 0 < 256) → list_any (λ b. not (nat_eq b 0)) (drop (at / 8 + 1) s) ≡ more_data s at
+  pub more_behind : rest ≡ 0 → leb 1 (ones_from (drop (at / 8 + 1) s) 0) ≡ more_data s at
   unfolding more_data
-  more_behind z small =
+  more_behind z =
       let q : at + 1 + (7 - at % 8) ≡ 8 * (at / 8 + 1) = omega arith in
       let o : ones_from s (at + 1) ≡ ones_from s (8 * (at / 8 + 1)) = ones_behind_zeros s (at + 1) (7 - at % 8) (sym rest_is ∙ z) ∙ ap (ones_from s) q in
-      rw o (any_one s small (at / 8 + 1))
+      rw (o, rest_ones_from s (at / 8 + 1)) refl

@@ -1,5 +1,5 @@
 -- What each step of the bit reader says, and where the reader stands then: behind what was read, and at a refusal where it stood.
-use Rattle.std.specs.Prelude.{ℕ, ◌≡◌, ◌<◌, ◌≤◌, ◌^◌, Result, Ok, Err, MatchResult}
+use Rattle.std.specs.Prelude.{ℕ, ◌≡◌, ◌≤◌, ◌^◌, Result, Ok, Err, MatchResult}
 use Rattle.refusals.specs.Answer.{Answer}
 use Rattle.refusals.specs.Answer.Answer.{success, refusal}
 use Rattle.refusals.specs.Refusals.{number_of}
@@ -8,10 +8,11 @@ use Rattle.refusals.specs.declared.refusal.Refusal.TheVariants.{NotWellFormed}
 use Rattle.bits.specs.Code.{Taken}
 use Rattle.bits.specs.Code.Taken.{taken, refused}
 use Rattle.bit_reader.specs.declared.BitReader.{BitReader}
+use Rattle.bit_reader.specs.declared.Place.{Place}
 
--- the place itself, or a refusal from 2^63 on
-abbrev pub IsPlace : ℕ → Result ℕ Refusal → Type 0
-IsPlace at r = MatchResult r (λ p. (p ≡ at) × (at < 2 ^ 63)) (λ e. (e ≡ NotWellFormed) × (2 ^ 63 ≤ at))
+-- the place of a reader with its bytes, or a refusal from 2^63 on
+abbrev pub IsPlaceOf : BitReader → Result Place Refusal → Type 0
+IsPlaceOf r x = MatchResult x (λ p. (p.bytes ≡ r.bytes) × (p.at ≡ r.bit_pos)) (λ e. (e ≡ NotWellFormed) × (2 ^ 63 ≤ r.bit_pos))
 
 -- a code's number and the place behind it
 abbrev pub code_answer : Result (ℕ × ℕ) Refusal → Taken

@@ -1,16 +1,11 @@
 -- What each step of the bit writer says, where the writer stands then, and what its output holds: a refusal leaves both as they were.
-use Rattle.std.specs.Prelude.{ℕ, Bool, List, ◌≡◌, ◌<◌, ◌≤◌, ◌^◌, Result, Ok, Err, MatchResult}
+use Rattle.std.specs.Prelude.{ℕ, Bool, List, ◌≡◌, Result, Ok, Err}
 use Rattle.refusals.specs.Answer.{Answer}
 use Rattle.refusals.specs.Answer.Answer.{success, refusal}
 use Rattle.refusals.specs.Refusals.{number_of}
 use Rattle.refusals.specs.declared.refusal.Refusal.{Refusal}
-use Rattle.refusals.specs.declared.refusal.Refusal.TheVariants.{NotWellFormed}
 use Rattle.bits.specs.Writing.{write_bits, buffer_after}
 use Rattle.bit_writer.specs.declared.BitWriter.{BitWriter}
-
--- the place itself, or a refusal from 2^63 on
-abbrev pub IsPlace : ℕ → Result ℕ Refusal → Type 0
-IsPlace at r = MatchResult r (λ p. (p ≡ at) × (at < 2 ^ 63)) (λ e. (e ≡ NotWellFormed) × (2 ^ 63 ≤ at))
 
 -- a step, and the place where the writer stands then
 abbrev pub wrote_answer : Result (Unit {0}) Refusal → ℕ → Answer ℕ

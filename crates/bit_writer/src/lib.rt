@@ -6,7 +6,7 @@ ghost use Rattle.bits.specs.Bits.{weight, with_bit, set_bit, set_bits, bits_of};
 ghost use Rattle.bits.specs.Code.{code_of};
 ghost use Rattle.bits.specs.Reading.{place_good};
 ghost use Rattle.bits.specs.Writing.{field_good, code_good, alignment_bits, trailing_bits};
-ghost use Rattle.bit_writer.specs.Answers.{IsPlace, Writes};
+ghost use Rattle.bit_writer.specs.Answers.{Writes};
 
 use refusals::Refusal;
 
@@ -53,9 +53,6 @@ pub struct BitWriter<'a> {
 }
 
 impl<'a> BitWriter<'a> {
-    // Places from here on are refused.
-    const LIMIT: usize = 0x8000_0000_0000_0000;
-
     // A writer at the first bit.
     pub fn new(out: &'a mut [u8]) -> BitWriter<'a>
         ensures same_output { result.out.ghost_name ≡ out.entry.ghost_name }
@@ -63,26 +60,6 @@ impl<'a> BitWriter<'a> {
         ensures place { result.bit_pos ≡ 0 }
     {
         BitWriter { out, bit_pos: 0 }
-    }
-
-    // A writer at a place.
-    pub fn at(out: &'a mut [u8], bit_pos: usize) -> BitWriter<'a>
-        ensures same_output { result.out.ghost_name ≡ out.entry.ghost_name }
-        ensures unchanged { result.out.now ≡ out.old }
-        ensures place { result.bit_pos ≡ bit_pos }
-    {
-        BitWriter { out, bit_pos }
-    }
-
-    // The place, where it is below the limit.
-    fn place(&self) -> Result<usize, Refusal>
-        ensures { IsPlace self.now.bit_pos result }
-    {
-        if self.bit_pos < BitWriter::LIMIT {
-            Ok(self.bit_pos)
-        } else {
-            Err(Refusal::NotWellFormed)
-        }
     }
 
     // The bits of a value, refused without room for them.
@@ -114,7 +91,7 @@ impl<'a> BitWriter<'a> {
     pub fn write_bits(&mut self, value: u32, width: u32) -> Result<(), Refusal>
         ensures { Writes (field_good self.old.bit_pos value width) (bits_of width value) self.old result self.new }
     {
-        self.place()?;
+        bits::place(self.bit_pos)?;
         if width > 32 {
             return Err(Refusal::NotWellFormed);
         }
@@ -128,7 +105,7 @@ impl<'a> BitWriter<'a> {
     pub fn write_ue(&mut self, value: u32) -> Result<(), Refusal>
         ensures { Writes (code_good self.old.bit_pos value) (code_of value) self.old result self.new }
     {
-        self.place()?;
+        bits::place(self.bit_pos)?;
         if value >= 0xffff_ffff {
             return Err(Refusal::NotWellFormed);
         }
@@ -138,18 +115,19 @@ impl<'a> BitWriter<'a> {
     }
 
     // Zeros to the byte boundary.
+    // As it is (2): this one writes the bits and the bit reader passes over them; place and distance are those of bits for both.
     pub fn align_to_byte(&mut self) -> Result<(), Refusal>
         ensures { Writes (place_good self.old.bit_pos) (alignment_bits self.old.bit_pos) self.old result self.new }
     {
-        let at = self.place()?;
-        self.put(0, ((8 - at % 8) % 8) as u32)
+        let at = bits::place(self.bit_pos)?;
+        self.put(0, bits::to_boundary(at))
     }
 
     // The stop bit and zeros to the byte boundary.
     pub fn write_rbsp_trailing_bits(&mut self) -> Result<(), Refusal>
         ensures { Writes (place_good self.old.bit_pos) (trailing_bits self.old.bit_pos) self.old result self.new }
     {
-        let at = self.place()?;
+        let at = bits::place(self.bit_pos)?;
         let zeros = (7 - at % 8) as u32;
         self.put(1u64 << zeros, zeros + 1)
     }

@@ -4,6 +4,7 @@ pub mod Code
 pub mod Reading
 pub mod Writing
 pub mod FieldLaws
+pub mod RestLaws
 pub mod OneLaws
 pub mod CodeLaws
 pub mod ByteLaws

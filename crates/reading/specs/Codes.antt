@@ -1,7 +1,7 @@
 -- What codes rest on, over plain values.
 use Rattle.std.specs.Prelude.{ℕ, suc, ◌+◌, ◌*◌, ◌-◌, ◌^◌, ◌≤◌, ◌<◌, ◌≡◌, List, Bool, true, false, cond, ltb, length, set, Ok, Err}
 use Rattle.std.proofs.Math.Path.{refl}
-use Rattle.std.proofs.Common.{sym, ◌∙◌, arith, ltb-true, lt-ltb}
+use Rattle.std.proofs.Common.{arith, ltb-true, lt-ltb}
 use native.Mathlib.Nat.{two-pow-succ}
 use lib.Pow.{pow_mono}
 use Rattle.refusals.specs.Number.{code_too_long}
@@ -21,9 +21,9 @@ use Rattle.reading.specs.Meets.{Meets}
 use Rattle.reading.specs.Steps.{Stands, Coded, pushed, meets_number, meets_refused}
 
 -- below the limit the bit reader reads every place
-pub code_said : {x : Taken} {s r : List ℕ} {at place : ℕ} → at < limit → r ≡ s → place ≡ at → x ≡ read_code r place → code_at s at ≡ x
+pub code_said : {x : Taken} (s : List ℕ) {at : ℕ} → at < limit → read_code s at ≡ x → code_at s at ≡ x
 unfolding read_code
-code_said {s = s} {at = at} h i j e = sym (e ∙ (λ k. read_code (i k) (j k)) ∙ rw (lt-ltb at (2 ^ 63) (omega arith)) refl)
+code_said s {at} h e = rw (lt-ltb at (2 ^ 63) (omega arith)) at e
 
 -- a code's number leaves room for one more
 pub code_small : {v next : ℕ} (s : List ℕ) (at : ℕ) → code_at s at ≡ taken v next → v < 4294967295
@@ -44,10 +44,10 @@ code_small {v} {next} s at e = go (ltb k 32) refl (ltb (at + k) (8 * length s)) 
     go false f b h = absurd (let n : ◌≡◌ {A = ℕ} 0 1 = cc in omega arith)
 
 -- a code that was read is the table's, and is stored with `plus` added
-pub meets_code : {plus v total : ℕ} {s s₁ s₂ : Reading} → Coded s (Ok v) s₁ → v + plus ≡ total → Stands s₁ s₂ s₁.at (s₁.n + 1) (set s₁.rec.now s₁.n total) → Meets ℕ (code plus done) s (Ok total) s₂
-meets_code {total = total} C e S = meets_number (read_code_as C.0 e read_done) (pushed total C.1 S)
+pub meets_code : {plus v total : ℕ} {s s₁ s₂ : Reading} → s.at < limit → Coded s (Ok v) s₁ → v + plus ≡ total → Stands s₁ s₂ s₁.at (s₁.n + 1) (set s₁.rec.now s₁.n total) → Meets ℕ (code plus done) s (Ok total) s₂
+meets_code {total = total} {s = s} h C e S = meets_number (read_code_as (code_said s.bytes.now h C.0) e read_done) (pushed total C.1 S)
 
 -- and so is its refusal
-pub meets_no_code : {plus : ℕ} {s s₁ : Reading} {e : Refusal} → Coded s (Err e) s₁ → Meets ℕ (code plus done) s (Err e) s₁
+pub meets_no_code : {plus : ℕ} {s s₁ : Reading} {e : Refusal} → s.at < limit → Coded s (Err e) s₁ → Meets ℕ (code plus done) s (Err e) s₁
 unfolding run
-meets_no_code {s = s} C = meets_refused (rw (C.0, run) refl) C.1
+meets_no_code {s = s} h C = meets_refused (rw (code_said s.bytes.now h C.0, run) refl) C.1

@@ -1,19 +1,20 @@
 -- What the words of a reading rest on, over plain values: whether a step is made, and how it ends.
-use Rattle.std.specs.Prelude.{ℕ, zero, suc, ◌+◌, ◌≤◌, ◌≡◌, List, [], ◌∷◌, Result, Ok, Err, MatchResult, length, set}
+use Rattle.std.specs.Prelude.{ℕ, zero, suc, ◌+◌, ◌^◌, ◌<◌, ◌≤◌, ◌≡◌, List, [], ◌∷◌, Result, Ok, Err, MatchResult, IfOk, length, set}
 use Rattle.std.proofs.Math.Path.{refl}
 use Rattle.std.proofs.Common.{sym, ap, ◌∙◌, subst, add-zero, arith, length-set, lt-ltb, ne_eqb}
 use Rattle.refusals.specs.declared.refusal.Refusal.{Refusal}
 use Rattle.refusals.specs.declared.refusal.Refusal.TheVariants.{NotWellFormed}
 use Rattle.refusals.specs.Refusals.{number_of, number_some}
 use Rattle.bits.specs.Bits.{field_at, field_width, to_boundary}
-use Rattle.bits.specs.Code.{code_at}
+use Rattle.bits.specs.FieldLaws.{field_lt}
 use Rattle.bits.specs.Code.Taken.{taken, refused}
+use Rattle.bits.specs.Reading.{read_code}
 use Rattle.vps_definition.specs.Syntax.{Syntax, numbers, Outcome, run}
 use Rattle.vps_definition.specs.Syntax.Syntax.{late, refuse, done}
 use Rattle.vps_definition.specs.Words.{u, u_minus1, ue, ue_minus1, inferred, nothing, aligned}
 use Rattle.vps_definition.specs.Syntax.Token.{number}
 use Rattle.vps_definition.specs.Syntax.Outcome.{refused as turned_away}
-use Rattle.vps_laws.specs.Inversion.{Reads, reads_run}
+use Rattle.vps_laws.specs.Inversion.{Reads, reads_run, read_late_as}
 use Rattle.vps_laws.specs.Inversion.Reads.{pass_align, read_align, read_done}
 use Rattle.reading.specs.declared.Reading.{Reading}
 use Rattle.reading.specs.Fits.{Room, Fits}
@@ -31,10 +32,19 @@ pub record Stands (s s' : Reading) (at n : ℕ) (rec : List ℕ) : Type 0 where
   pub n' : s'.n ≡ n
   pub rec' : s'.rec.now ≡ rec
 
+-- the field of a width at the place, passed; or no step is made, and all stays
+pub record IsPassed (w : ℕ) (s : Reading) (v : ℕ) (s' : Reading) : Type 0 where
+  pub room : Room s.at s.n
+  pub value : v ≡ field_at s.bytes.now s.at (field_width w)
+  pub stands : Stands s s' (s.at + field_width w) s.n s.rec.now
+
+abbrev pub Passed : ℕ → Reading → Result ℕ Refusal → Reading → Type 0
+Passed w s r s' = MatchResult r (λ v. IsPassed w s v s') (λ e. (Room s.at s.n → ⊥) × (s' ≡ s))
+
 -- the code at the place, and the place behind it; or its refusal
 abbrev pub Coded : Reading → Result ℕ Refusal → Reading → Type 0
-Coded s (Ok v) s' = (code_at s.bytes.now s.at ≡ taken v s'.at) × Stands s s' s'.at s.n s.rec.now
-Coded s (Err e) s' = (code_at s.bytes.now s.at ≡ refused (number_of e)) × Stands s s' s.at s.n s.rec.now
+Coded s (Ok v) s' = (read_code s.bytes.now s.at ≡ taken v s'.at) × Stands s s' s'.at s.n s.rec.now
+Coded s (Err e) s' = (read_code s.bytes.now s.at ≡ refused (number_of e)) × Stands s s' s.at s.n s.rec.now
 
 pub stands_kept : {s s' : Reading} {at n : ℕ} {rec : List ℕ} → length rec ≡ length s.rec.now → Stands s s' at n rec → Kept s s'
 stands_kept l S = record { bytes = S.bytes; name = S.name; long = ap length S.rec' ∙ l }
@@ -55,6 +65,9 @@ pushed v S T = record {
 -- no step is made
 pub meets_shut : {A : Type 0} {m : Syntax A} {s : Reading} {e : Refusal} → (Fits m s.bytes.now s.at s.n → Room s.at s.n) → (Room s.at s.n → ⊥) → Meets A m s (Err e) s
 meets_shut F h = record { kept = record { bytes = refl; name = refl; long = refl }; goes = λ f. absurd (h (F f)) }
+
+pub meets_not_passed : {A : Type 0} {m : Syntax A} {s s' : Reading} {e : Refusal} → (Fits m s.bytes.now s.at s.n → Room s.at s.n) → (Room s.at s.n → ⊥) × (s' ≡ s) → Meets A m s (Err e) s'
+meets_not_passed {A} {m} {s} {s'} {e} F h = subst (λ (x : Reading). Meets A m s (Err e) x) (sym h.1) (meets_shut F h.0)
 
 -- a number is read or inferred, and stored
 pub meets_number : {m : Syntax ℕ} {s s' : Reading} {v next : ℕ} → Reads m s.bytes.now s.at v (number v ∷ []) next → Stands s s' next (s.n + 1) (set s.rec.now s.n v) → Meets ℕ m s (Ok v) s'
@@ -112,6 +125,15 @@ room_late w find s at n f = f.0
 pub room_aligned : (q : ℕ) (s : List ℕ) (at n : ℕ) → Fits (aligned q) s at n → Room at n
 unfolding Fits aligned
 room_aligned q s at n f = f.0
+
+-- a field that is passed and kept elsewhere
+pub meets_late : (w : ℕ) (find : List ℕ → List ℕ → ℕ) {s s' : Reading} (r : Result ℕ Refusal) → Passed w s r s' → Meets ℕ (late (field_width w) find done) s r s'
+meets_late w find (Ok v) P = meets_silent (read_late_as (sym P.value) read_done) P.stands
+meets_late w find {s} (Err e) P = meets_not_passed (room_late (field_width w) find s.bytes.now s.at s.n) P
+
+pub passed_within : (w : ℕ) (s s' : Reading) (r : Result ℕ Refusal) → Passed w s r s' → IfOk r (λ v. v < 2 ^ field_width w)
+passed_within w s s' (Ok v) P = rw P.value (field_lt s.bytes.now s.at (field_width w))
+passed_within w s s' (Err e) P = tt
 
 -- ── Alignment ─────────────────────────────────────────────────────────
 -- the bits to the boundary are fewer than 32

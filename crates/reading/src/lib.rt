@@ -17,10 +17,8 @@ pub struct Reading<'a> {
 
 impl<'a> Reading<'a> {
     ghost use Rattle.std.specs.Prelude.{◌≡◌, ◌+◌, ◌*◌, ◌<◌, set};
-    ghost use Rattle.bits.specs.Bits.{field_at, field_width};
-    ghost use Rattle.bits.specs.Code.{code_at};
-    ghost use Rattle.reading.specs.Fits.{Room, limit};
-    ghost use Rattle.reading.specs.Steps.{Reaches, Stands, Coded};
+    ghost use Rattle.reading.specs.Fits.{limit};
+    ghost use Rattle.reading.specs.Steps.{Reaches, Stands, Passed, Coded};
 
     // Places and numbers from here on are never reached: every table stays far below.
     pub const LIMIT: usize = 0x4000_0000_0000_0000;
@@ -52,15 +50,14 @@ impl<'a> Reading<'a> {
         }
     }
 
-    // The next field of a width up to 32, and past it.
-    fn pass(&mut self, width: u32) -> u32
-        requires { self.old.at < limit }
-        ensures value { result ≡ field_at self.old.bytes.now self.old.at (field_width width) }
-        ensures stands { Stands self.old self.new (self.old.at + field_width width) self.old.n self.old.rec.now }
+    // The next field of a width up to 32, and past it; refused from the limit on.
+    fn pass(&mut self, width: u32) -> Result<u32, Refusal>
+        ensures { Passed width self.old result self.new }
     {
+        self.reach()?;
         let at = self.at;
         self.at = at + width.min(32) as usize;
-        bit_fields::field_at(self.bytes, at, width)
+        Ok(bit_fields::field_at(self.bytes, at, width))
     }
 
     // Stores the record's next number.
@@ -76,10 +73,12 @@ impl<'a> Reading<'a> {
 
     // The next code, and past it.
     fn code(&mut self) -> Result<u32, Refusal>
-        requires { self.old.at < limit }
         ensures { Coded self.old result self.new }
     {
-        let mut reader = BitReader::at(self.bytes, self.at);
+        let mut reader = BitReader {
+            bytes: self.bytes,
+            bit_pos: self.at,
+        };
         let v = reader.ue()?;
         self.at = reader.bit_pos;
         Ok(v)
@@ -139,15 +138,13 @@ impl Steps for Reading<'_> {
     }
 
     fn u(&mut self, width: u32) -> Result<u32, Refusal> {
-        self.reach()?;
-        let v = self.pass(width);
+        let v = self.pass(width)?;
         self.push(v);
         Ok(v)
     }
 
     fn u_minus1(&mut self) -> Result<u32, Refusal> {
-        self.reach()?;
-        let v = self.pass(8) + 1;
+        let v = self.pass(8)? + 1;
         self.push(v);
         Ok(v)
     }
@@ -173,18 +170,15 @@ impl Steps for Reading<'_> {
     }
 
     fn general(&mut self, i: usize, width: u32) -> Result<u32, Refusal> {
-        self.reach()?;
-        Ok(self.pass(width))
+        self.pass(width)
     }
 
     fn layers_minus1(&mut self) -> Result<u32, Refusal> {
-        self.reach()?;
-        Ok(self.pass(6))
+        self.pass(6)
     }
 
     fn align(&mut self, refusal: Option<Refusal>) -> Result<(), Refusal> {
-        self.reach()?;
-        let bits = self.pass(((8 - self.at % 8) % 8) as u32);
+        let bits = self.pass(bits::to_boundary(self.at))?;
         let Some(refusal) = refusal else {
             return Ok(());
         };
@@ -211,8 +205,7 @@ impl Parts for Reading<'_> {
     }
 
     fn slot_number(&mut self, _slot: usize, _j: usize, width: u32) -> Result<u32, Refusal> {
-        self.reach()?;
-        Ok(self.pass(width))
+        self.pass(width)
     }
 
     // The number of the constraints that are not fixed stands 69 bits on.

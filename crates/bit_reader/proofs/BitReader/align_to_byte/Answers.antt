@@ -10,4 +10,4 @@ returns-in_err-at c = moves_not _ (rw (far c.in_err-at.ensures.1)) (handed_on (e
 
 pub returns : goal.returns
 unfolding read_alignment
-returns c = moves_to c.args.self.now (rw (c.in_ok-at.ensures.0, near c.in_ok-at.ensures.1))
+returns c = moves_to c.args.self.now (rw (c.to_boundary.ensures.0, c.in_ok-at.ensures.0, near c.in_ok-at.ensures.1))

@@ -1,5 +1,5 @@
 -- The cases of the definition; a width of 32 at the most is read whole.
-use Rattle.std.proofs.Common.{refl, arith, le-leb}
+use Rattle.std.proofs.Common.{refl, le-leb}
 use Rattle.std.proofs.Math.Bool.{and-false}
 use Rattle.std.proofs.Math.Dec.{leb}
 use Rattle.std.proofs.lemmas.Bool.{lt-leb}

@@ -14,4 +14,4 @@ returns-in_err-v c = search (rules, meets_no_code)
 
 pub returns : goal.returns
 unfolding ue
-returns c = meets_code c.in_ok-v.ensures (add-zero _) c.push.ensures
+returns c = meets_code c.in_ok-reach.ensures.near c.in_ok-v.ensures (add-zero _) c.push.ensures
