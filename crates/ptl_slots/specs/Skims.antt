@@ -1,6 +1,6 @@
 -- How `skim` goes over the words of a table: behind each, the result and the record's rest.
-use Rattle.std.specs.Prelude.{ℕ, zero, suc, ◌+◌, ◌≡◌, refl, List, [], ◌∷◌, ◌++◌, Bool, true, false, length, get_or, drop}
-use Rattle.std.proofs.Common.{sym, ap, ◌∙◌, subst, zero-add, add-one}
+use Rattle.std.specs.Prelude.{ℕ, zero, suc, ◌+◌, ◌-◌, ◌≤◌, ◌≡◌, refl, List, [], ◌∷◌, ◌++◌, Bool, true, false, length, get_or, drop}
+use Rattle.std.proofs.Common.{sym, ap, ◌∙◌, subst, zero-add, add-one, arith}
 use Rattle.vps_definition.specs.Syntax.{Syntax, ◌>>=◌, skim}
 use Rattle.vps_definition.specs.Syntax.Syntax.{field, code, late, keep, mark, align, test, refuse, done}
 use Rattle.vps_definition.specs.Words.{u, inferred, nothing, aligned, keeps, loop, repeat}
@@ -36,6 +36,38 @@ skim_end (test true m n) r = skim_end m r
 skim_end (test false m n) r = skim_end n r
 skim_end (refuse n) r = refl
 skim_end (done a) r = refl
+
+-- ── What is left ──────────────────────────────────────────────────────
+-- numbers that others end in
+pub record EndsIn (x y : List ℕ) : Type 0 where
+  pub shorter : length y ≤ length x
+  pub is : drop (length x - length y) x ≡ y
+
+ends_all : (x : List ℕ) → EndsIn x x
+ends_all x =
+    let n : length x - length x ≡ 0 = omega arith in
+    record { shorter = omega arith; is = ap (λ (k : ℕ). drop k x) n }
+
+ends_more : (v : ℕ) {x y : List ℕ} → EndsIn x y → EndsIn (v ∷ x) y
+ends_more v {x} {y} E =
+    let n : length (v ∷ x) - length y ≡ suc (length x - length y) = omega (arith, E.shorter) in
+    record { shorter = omega (arith, E.shorter); is = ap (λ (k : ℕ). drop k (v ∷ x)) n ∙ E.is }
+
+pub ends_in : {A : Type 0} (m : Syntax A) (r x : List ℕ) → EndsIn x (skim m r x)
+unfolding skim
+ends_in (field w plus k) r [] = ends_all []
+ends_in (field w plus k) r (v ∷ x) = ends_more v (ends_in (k v) r x)
+ends_in (code plus k) r [] = ends_all []
+ends_in (code plus k) r (v ∷ x) = ends_more v (ends_in (k v) r x)
+ends_in (late w find k) r x = ends_in (k (find r x)) r x
+ends_in (keep v m) r [] = ends_all []
+ends_in (keep v m) r (u ∷ x) = ends_more u (ends_in m r x)
+ends_in (mark m) r x = ends_in m r x
+ends_in (align n m) r x = ends_in m r x
+ends_in (test true m n) r x = ends_in m r x
+ends_in (test false m n) r x = ends_in n r x
+ends_in (refuse n) r x = ends_all x
+ends_in (done a) r x = ends_all x
 
 -- ── Words ─────────────────────────────────────────────────────────────
 pub skims_done : {A : Type 0} {a : A} {r x : List ℕ} → Skims (done a) r x a x

@@ -6,27 +6,28 @@ use Rattle.std.proofs.Math.ListN.{drop}
 use Rattle.vps_definition.specs.Syntax.{skim}
 use Rattle.vps_definition.specs.Words.{sum, when}
 use Rattle.vps_definition.specs.ProfileTierLevel.{number_of, constraint_bit, constraints, constraints_if, general_constraints_info, profile_and_tier, sub_profile, sub_profiles, profile_tier_level}
-use Rattle.ptl_slots.specs.Standing.{standing, standing_behind, drop_behind}
-use Rattle.ptl_slots.specs.Skims.{Skims, skims_then, skims_all, skims_to, skims_nothing, skims_yes, skims_no, skims_u, skims_inferred, skims_keep_nothing, skims_aligned, skims_standing, skims_fields, skims_ahead, skims_reversed}
+use Rattle.ptl_slots.specs.Standing.{standing, standing_behind, standing_past, drop_behind}
+use Rattle.ptl_slots.specs.Skims.{EndsIn, ends_in, Skims, skims_then, skims_all, skims_to, skims_nothing, skims_yes, skims_no, skims_u, skims_inferred, skims_keep_nothing, skims_aligned, skims_standing, skims_fields, skims_ahead, skims_reversed}
 
 -- the record's rest behind the slot that it begins with, unchecked
 abbrev pub next_slot : (rec y : List ℕ) → List ℕ
 next_slot rec y = skim (profile_tier_level (get_or y 0 0) (get_or y 1 0)) rec y
 
+-- which is the end of that which the slot begins
+pub slot_ends : (rec y : List ℕ) → EndsIn y (next_slot rec y)
+slot_ends rec y = ends_in (profile_tier_level (get_or y 0 0) (get_or y 1 0)) rec y
+
 -- the number of the eight bits that say how many constraints follow the fixed ones, where the constraints' length is the first number
 abbrev pub more_constraints : List ℕ → ℕ
 more_constraints x = number_of 0 (standing 8 70 x)
 
-pub four_bits : {a b c d : ℕ} (x : List ℕ) (j : ℕ) → a ≡ get_or x j 0 → b ≡ get_or x (j + 1) 0 → c ≡ get_or x (j + 2) 0 → d ≡ get_or x (j + 3) 0 → ((a * 2 + b) * 2 + c) * 2 + d ≡ number_of 0 (standing 4 j x)
+pub four_bits : {a b c d : ℕ} (x : List ℕ) → a ≡ get_or x 0 0 → b ≡ get_or x 1 0 → c ≡ get_or x 2 0 → d ≡ get_or x 3 0 → ((a * 2 + b) * 2 + c) * 2 + d ≡ number_of 0 (standing 4 0 x)
 unfolding number_of standing
-four_bits x j e f g h =
-    let two : j + 1 + 1 ≡ j + 2 = omega arith in
-    let three : j + 1 + 1 + 1 ≡ j + 3 = omega arith in
-    omega (arith, ap (λ (k : ℕ). get_or x k 0) two, ap (λ (k : ℕ). get_or x k 0) three)
+four_bits x e f g h = omega (arith, e, f, g, h)
 
-pub eight_bits : (x : List ℕ) → number_of 0 (standing 4 70 x) * 16 + number_of 0 (standing 4 74 x) ≡ more_constraints x
+pub eight_bits : (x : List ℕ) → number_of 0 (standing 4 0 (drop 70 x)) * 16 + number_of 0 (standing 4 0 (drop 74 x)) ≡ more_constraints x
 unfolding number_of standing
-eight_bits x = omega arith
+eight_bits x = omega (arith, ap (number_of 0) (standing_past 4 70 0 x), ap (number_of 0) (standing_past 4 74 0 x))
 
 -- ── Constraints ───────────────────────────────────────────────────────
 skims_constraints : {r x : List ℕ} → Skims constraints r x tt (drop (78 + more_constraints x) x)

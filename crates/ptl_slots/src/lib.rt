@@ -1,133 +1,101 @@
-// Finds where the slots of the PTL section stand in a record, unchecked.
+// Finds what stands in a record behind a slot of the PTL section, unchecked. Numbers, a slot's too, are given as the record's rest
+// from the first of them on.
 #![tactic(auto)]
 
-ghost use Rattle.std.specs.Prelude.{◌≡◌, ◌+◌, ◌<◌, ◌^◌, eqb, length, get_or, drop};
+ghost use Rattle.std.specs.Prelude.{◌≡◌, ◌+◌, ◌<◌, ◌^◌, ℕ, List, eqb, length, drop};
 ghost use Rattle.vps_definition.specs.Words.{when, sum};
 ghost use Rattle.vps_definition.specs.ProfileTierLevel.{number_of, general_constraints_info, sub_profiles};
-ghost use Rattle.ptl_slots.specs.Standing.{standing, Reaches, Behind, Capped};
+ghost use Rattle.ptl_slots.specs.Standing.{standing, Capped};
 ghost use Rattle.ptl_slots.specs.Skims.{Skims};
 ghost use Rattle.ptl_slots.specs.Slot.{next_slot, more_constraints, front_of};
 
-// The number that stands j numbers behind a place; 0 past the record's end.
-pub fn number_from(rec: &[u32], at: usize, j: usize) -> u32
-    ensures { result ≡ get_or (drop at rec.now) j 0 }
-{
-    if rec.len() <= at {
-        return 0;
-    }
-    if rec.len() - at <= j {
-        return 0;
-    }
-    rec[at + j]
-}
+use lists::behind;
+use record_parts::number_at;
 
-// How many of so many numbers from a place on the record has.
-fn reached(rec: &[u32], at: usize, count: usize) -> usize
-    ensures { Reaches rec.now at count result × Behind rec.now at (at + result) (drop count (drop at rec.now)) }
+// The sum of so many numbers, or more than there are numbers where that is so.
+pub fn sum_numbers(numbers: &[u32], count: u32) -> usize
+    ensures { Capped (length numbers.now) (sum (standing count 0 numbers.now)) result }
 {
-    if rec.len() <= at {
-        return 0;
-    }
-    if rec.len() - at <= count {
-        return rec.len() - at;
-    }
-    count
-}
-
-// The place behind so many numbers, or the record's end where it has fewer; a place past the end stays.
-pub fn skip_numbers(rec: &[u32], at: usize, count: usize) -> usize
-    ensures { Behind rec.now at result (drop count (drop at rec.now)) }
-{
-    at + reached(rec, at, count)
-}
-
-// The sum of so many numbers from a place on, or more than the record has numbers where that is so.
-pub fn sum_numbers(rec: &[u32], at: usize, count: u32) -> usize
-    ensures { Capped (length rec.now) (sum (standing count 0 (drop at rec.now))) result }
-{
-    let most = reached(rec, at, count as usize);
+    let first = numbers.get(..count as usize).unwrap_or(numbers);
     let mut sum = 0;
-    let mut i = 0;
-    while i < most {
-        if rec.len() < sum {
+    for v in first {
+        if numbers.len() < sum {
             return sum;
         }
-        sum += number_from(rec, at, i) as usize;
-        i += 1;
+        sum += *v as usize;
     }
     sum
 }
 
-// The number of four bits that stand j numbers behind a place, the highest first; bits are not checked.
-fn four_bits(rec: &[u32], at: usize, j: u32) -> usize
-    ensures { (result ≡ number_of 0 (standing 4 j (drop at rec.now))) × (result < 2 ^ 36) }
+// The number of the first four bits, the highest first; bits are not checked.
+fn four_bits(bits: &[u32]) -> usize
+    ensures { (result ≡ number_of 0 (standing 4 0 bits.now)) × (result < 2 ^ 36) }
 {
-    let i = j as usize;
-    let first = number_from(rec, at, i) as usize;
-    let second = number_from(rec, at, i + 1) as usize;
-    let third = number_from(rec, at, i + 2) as usize;
-    let fourth = number_from(rec, at, i + 3) as usize;
+    let first = number_at(bits, 0) as usize;
+    let second = number_at(bits, 1) as usize;
+    let third = number_at(bits, 2) as usize;
+    let fourth = number_at(bits, 3) as usize;
     ((first * 2 + second) * 2 + third) * 2 + fourth
 }
 
-// How many constraints follow the fixed ones, by the bits that stand 70 to 77 numbers behind the place of their length.
-pub fn more_constraints(rec: &[u32], at: usize) -> usize
-    ensures { (result ≡ more_constraints (drop at rec.now)) × (result < 2 ^ 41) }
+// How many constraints follow the fixed ones, by the bits that stand 70 to 77 numbers behind the constraints' length.
+pub fn more_constraints(length: &[u32]) -> usize
+    ensures { (result ≡ more_constraints length.now) × (result < 2 ^ 41) }
 {
-    four_bits(rec, at, 70) * 16 + four_bits(rec, at, 74)
+    four_bits(behind(length, 70)) * 16 + four_bits(behind(length, 74))
 }
 
-// The place behind the head, the profile and the tier, where they are present, the level, and two flags.
-fn skip_front(rec: &[u32], at: usize, present: u32) -> usize
-    ensures { Behind rec.now at result (drop (front_of (eqb present 0)) (drop at rec.now)) }
+// What stands behind the head, the profile and the tier, where they are present, the level, and two flags.
+fn behind_front(slot: &[u32], present: u32) -> &[u32]
+    ensures { result.now ≡ drop (front_of (eqb present 0)) slot.now }
 {
     if present == 0 {
-        return skip_numbers(rec, at, 5);
+        return behind(slot, 5);
     }
-    skip_numbers(rec, at, 7)
+    behind(slot, 7)
 }
 
-// The place behind the constraints.
-fn skip_constraints(rec: &[u32], at: usize, present: u32) -> usize
-    ensures { Skims (when present general_constraints_info) rec.now (drop at rec.now) tt (drop result rec.now) × Behind rec.now at result (drop result rec.now) }
+// What stands behind the constraints.
+fn behind_constraints(flag: &[u32], present: u32) -> &[u32]
+    ensures { (rec : List ℕ) → Skims (when present general_constraints_info) rec flag.now tt result.now }
 {
     if present == 0 {
-        return at;
+        return flag;
     }
-    let length = skip_numbers(rec, at, 1);
-    if number_from(rec, at, 0) == 0 {
-        return skip_numbers(rec, length, 1);
+    let length = behind(flag, 1);
+    if number_at(flag, 0) == 0 {
+        return behind(length, 1);
     }
-    skip_numbers(rec, length, 78 + more_constraints(rec, length))
+    behind(length, 78 + more_constraints(length))
 }
 
-// The place behind the sublayers' flags and levels.
-fn skip_sublayers(rec: &[u32], at: usize, max_tid: u32) -> usize
-    ensures { Behind rec.now at result (drop (sum (standing max_tid 0 (drop at rec.now))) (drop max_tid (drop at rec.now))) }
+// What stands behind the sublayers' flags and levels.
+fn behind_sublayers(flags: &[u32], max_tid: u32) -> &[u32]
+    ensures { result.now ≡ drop (sum (standing max_tid 0 flags.now)) (drop max_tid flags.now) }
 {
-    let levels = skip_numbers(rec, at, max_tid as usize);
-    skip_numbers(rec, levels, sum_numbers(rec, at, max_tid))
+    let levels = behind(flags, max_tid as usize);
+    behind(levels, sum_numbers(flags, max_tid))
 }
 
-// The place behind the sub-profiles.
-fn skip_sub_profiles(rec: &[u32], at: usize, present: u32) -> usize
-    ensures { Skims (when present sub_profiles) rec.now (drop at rec.now) tt (drop result rec.now) × Behind rec.now at result (drop result rec.now) }
+// What stands behind the sub-profiles.
+fn behind_sub_profiles(count: &[u32], present: u32) -> &[u32]
+    ensures { (rec : List ℕ) → Skims (when present sub_profiles) rec count.now tt result.now }
 {
     if present == 0 {
-        return at;
+        return count;
     }
-    let first = skip_numbers(rec, at, 1);
-    skip_numbers(rec, first, number_from(rec, at, 0) as usize)
+    let first = behind(count, 1);
+    behind(first, number_at(count, 0) as usize)
 }
 
-// The place of the slot behind the one at a place, or the record's end; a place past the end stays.
-pub fn skip_slot(rec: &[u32], at: usize) -> usize
-    ensures { Behind rec.now at result (next_slot rec.now (drop at rec.now)) }
+// The next slot: what stands behind a slot.
+pub fn behind_slot(slot: &[u32]) -> &[u32]
+    ensures { (rec : List ℕ) → result.now ≡ next_slot rec slot.now }
 {
-    let present = number_from(rec, at, 0);
-    let max_tid = number_from(rec, at, 1);
-    let front = skip_front(rec, at, present);
-    let constraints = skip_constraints(rec, front, present);
-    let sublayers = skip_sublayers(rec, constraints, max_tid);
-    skip_sub_profiles(rec, sublayers, present)
+    let present = number_at(slot, 0);
+    let max_tid = number_at(slot, 1);
+    let front = behind_front(slot, present);
+    let constraints = behind_constraints(front, present);
+    let sublayers = behind_sublayers(constraints, max_tid);
+    behind_sub_profiles(sublayers, present)
 }

@@ -1,5 +1,5 @@
 -- How a record that the table has taken ends: what the code finds, and what that makes of the record.
-use Prim.Native.Nat.{ℕ, ◌+◌, ◌-◌, ◌*◌, ◌≤◌, ◌<◌}
+use Prim.Native.Nat.{ℕ, ◌+◌, ◌*◌, ◌≤◌, ◌<◌}
 use Rattle.std.specs.Prelude.{◌≡◌, Bool, true, ◌||◌, eqb, get_or, drop, Result, Ok, Err}
 use Rattle.std.proofs.Math.Path.{refl, sym, ap}
 use Rattle.std.proofs.Common.{◌∙◌, subst, add-zero, arith, eq-eqb, length-append, take_all, drop-drop, get_or-drop}
@@ -37,8 +37,8 @@ may_extend flag count = eqb flag 1 || eqb count 0
 -- the end is as it must be, but that its bits were not looked at one by one
 pub record Almost (r g : List ℕ) (t : List Token) (c : ℕ) : Type 0 where
   pub total : c + count_in r c + 9 ≡ length r
-  pub general : Stands r 0 g
-  pub trailer : Stands r (c + 1 + count_in r c) (trailer_of r t)
+  pub general : Stands r g
+  pub trailer : Stands (drop (count_in r c) (drop 1 (drop c r))) (trailer_of r t)
   pub may : may_extend (get_or g 8 0) (count_in r c) ≡ true
 
 abbrev pub Looked : (r g : List ℕ) (t : List Token) (c : ℕ) → Bool → Type 0
@@ -68,11 +68,11 @@ module _ {r g : List ℕ} {t : List Token} {c : ℕ} (T : Taken r g t c) where
   extension_length e = length-take-le (count_in r c) (drop 1 (drop c r)) (omega (arith, e, length-drop c r, length-drop 1 (drop c r)))
 
   -- what stands behind the extension is the trailer and nothing more
-  behind : c + count_in r c + 9 ≡ length r → take (length (trailer_of r t)) (drop (c + 1 + count_in r c) r) ≡ drop (1 + count_in r c) (drop c r)
+  behind : c + count_in r c + 9 ≡ length r → take (length (trailer_of r t)) (drop (count_in r c) (drop 1 (drop c r))) ≡ drop (1 + count_in r c) (drop c r)
   behind e =
-      let q : c + (1 + count_in r c) ≡ c + 1 + count_in r c = omega arith in
-      take_all (length (trailer_of r t)) (drop (c + 1 + count_in r c) r) (omega (arith, e, trailer_length, length-drop (c + 1 + count_in r c) r))
-      ∙ sym (drop-drop (1 + count_in r c) c r ∙ ap (λ (n : ℕ). drop n r) q)
+      let x : List ℕ = drop (count_in r c) (drop 1 (drop c r)) in
+      take_all (length (trailer_of r t)) x (omega (arith, e, trailer_length, length-drop c r, length-drop 1 (drop c r), length-drop (count_in r c) (drop 1 (drop c r))))
+      ∙ drop-drop (count_in r c) 1 (drop c r)
 
   pub almost_passed : Almost r g t c → all_flags (extension_of (drop c r)) ≡ true → Passed r g t c
   unfolding extension_good
@@ -98,28 +98,39 @@ module _ {r g : List ℕ} {t : List Token} {c : ℕ} (T : Taken r g t c) where
   pub not_looked : (Almost r g t c → ⊥) → parts_good g t (extension_of (drop c r)) r ≡ false
   not_looked h = is_false (parts_good g t (extension_of (drop c r)) r) (λ e. h (passed_almost (parts_passed T e)))
 
-  pub no_room : length r - c < 9 → Looked r g t c false
-  no_room h = not_looked (λ A. omega (arith, h, A.total))
+  pub no_count : length (drop c r) ≡ 0 → Looked r g t c false
+  no_count h = not_looked (λ A. omega (arith, h, A.total, length-drop c r))
 
-  -- by the numbers that the code has in hand
-  module _ {count flag : ℕ} {l : List ℕ} (n : count ≡ count_in r c) (q : l ≡ trailer_of r t) (f : get_or g 8 0 ≡ flag) where
-    pub no_total : (c + count + 9 ≡ length r → ⊥) → Looked r g t c false
-    no_total h = not_looked (λ A. h (ap (λ (k : ℕ). c + k + 9) n ∙ A.total))
+  -- by the numbers that the code has in hand: the count, and what stands behind it
+  module _ {count flag : ℕ} {bits l : List ℕ} (x : drop c r ≡ count ∷ bits) (q : l ≡ trailer_of r t) (f : get_or g 8 0 ≡ flag) where
+    n : count ≡ count_in r c
+    n = sym (ap (λ (y : List ℕ). get_or y 0 0) x)
 
-    pub no_general : (Stands r 0 g → ⊥) → Looked r g t c false
+    pub no_bits : length bits < count → Looked r g t c false
+    no_bits h = not_looked (λ A. omega (arith, h, n, A.total, length-drop c r, ap length x))
+
+    pub no_general : (Stands r g → ⊥) → Looked r g t c false
     no_general h = not_looked (λ A. h A.general)
 
-    pub no_trailer : (Stands r (c + 1 + count) l → ⊥) → Looked r g t c false
-    no_trailer h = not_looked (λ A. h (subst (λ (x : List ℕ). Stands r (c + 1 + count) x) (sym q) (subst (λ (k : ℕ). Stands r (c + 1 + k) (trailer_of r t)) (sym n) A.trailer)))
+    -- and what stands behind so many bits
+    module _ {end : List ℕ} (e : end ≡ drop count bits) (m : length end + count ≡ length bits) where
+      there : end ≡ drop (count_in r c) (drop 1 (drop c r))
+      there = e ∙ (λ i. drop (n i) (drop 1 (sym x i)))
 
-    pub looked : (b : Bool) → c + count + 9 ≡ length r → Stands r 0 g → Stands r (c + 1 + count) l → b ≡ may_extend flag count → Looked r g t c b
-    looked true k s u m = record {
-      total = ap (λ (i : ℕ). c + i + 9) (sym n) ∙ k;
-      general = s;
-      trailer = subst (λ (i : ℕ). Stands r (c + 1 + i) (trailer_of r t)) n (subst (λ (x : List ℕ). Stands r (c + 1 + count) x) q u);
-      may = (λ i. may_extend (f i) (sym n i)) ∙ sym m;
-    }
-    looked false k s u m = not_looked (λ A. absurd (true≢false (sym A.may ∙ (λ i. may_extend (f i) (sym n i)) ∙ sym m)))
+      pub no_end : (length end ≡ 8 → ⊥) → Looked r g t c false
+      no_end h = not_looked (λ A. h (omega (arith, m, n, A.total, length-drop c r, ap length x)))
+
+      pub no_trailer : (Stands end l → ⊥) → Looked r g t c false
+      no_trailer h = not_looked (λ A. h ((λ i. take (length (q i)) (there i)) ∙ A.trailer ∙ sym q))
+
+      pub looked : (b : Bool) → length end ≡ 8 → Stands r g → Stands end l → b ≡ may_extend flag count → Looked r g t c b
+      looked true k s u o = record {
+        total = omega (arith, k, m, n, length-drop c r, ap length x);
+        general = s;
+        trailer = (λ i. take (length (sym q i)) (sym there i)) ∙ u ∙ q;
+        may = (λ i. may_extend (f i) (sym n i)) ∙ sym o;
+      }
+      looked false k s u o = not_looked (λ A. absurd (true≢false (sym A.may ∙ (λ i. may_extend (f i) (sym n i)) ∙ sym o)))
 
 -- ── The extension's table ─────────────────────────────────────────────
 -- the count, and so many flags

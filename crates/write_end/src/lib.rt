@@ -15,15 +15,15 @@ use refusals::Refusal;
 use table_steps::Steps;
 use writing::Writing;
 
-// Whether the record has these numbers from a place on.
-fn has_numbers(rec: &[u32], from: usize, list: &[usize]) -> bool
-    ensures { Has rec.now from list.now result }
+// Whether numbers begin with those of a list.
+fn has_numbers(numbers: &[u32], list: &[usize]) -> bool
+    ensures { Has numbers.now list.now result }
 {
-    if rec.len().saturating_sub(from) < list.len() {
+    if numbers.len() < list.len() {
         return false;
     }
-    for (i, number) in list.iter().enumerate() {
-        if record_parts::number_at(rec, from + i) as usize != *number {
+    for (v, number) in numbers.iter().zip(list) {
+        if *v as usize != *number {
             return false;
         }
     }
@@ -38,24 +38,25 @@ fn may_extend(flag: u32, count: usize) -> bool
 }
 
 // Whether the record ends as it must behind the table's numbers, its bits not looked at one by one.
-fn has_end(rec: &[u32], c: usize, flag: u32, general: &[usize], trailer: &[usize]) -> bool
-    ensures { (t : List Token) → Taken rec.now general.now t c → trailer.now ≡ trailer_of rec.now t → get_or general.now 8 0 ≡ flag → Looked rec.now general.now t c result }
+fn has_end(writing: &Writing, flag: u32, general: &[usize], trailer: &[usize]) -> bool
+    ensures { (t : List Token) → Taken writing.now.rec.now general.now t writing.now.c → trailer.now ≡ trailer_of writing.now.rec.now t → get_or general.now 8 0 ≡ flag → Looked writing.now.rec.now general.now t writing.now.c result }
 {
-    let left = rec.len().saturating_sub(c);
-    if left < Record::END {
+    let Some((count, bits)) = lists::behind(writing.rec, writing.c).split_first() else {
+        return false;
+    };
+    let Some((_, end)) = bits.split_at_checked(*count as usize) else {
+        return false;
+    };
+    if end.len() != Record::TRAILER {
         return false;
     }
-    let count = record_parts::number_at(rec, c) as usize;
-    if left - Record::END != count {
+    if !has_numbers(writing.rec, general) {
         return false;
     }
-    if !has_numbers(rec, 0, general) {
+    if !has_numbers(end, trailer) {
         return false;
     }
-    if !has_numbers(rec, c + 1 + count, trailer) {
-        return false;
-    }
-    may_extend(flag, count)
+    may_extend(flag, *count as usize)
 }
 
 // The extension: its count, and its bits.
@@ -78,7 +79,7 @@ pub fn write_end(
     ensures stays { Stays writing.old writing.new }
     ensures ends { (start : ℕ) (d lent : List ℕ) (t : List Token) → Ready start d writing.old lent → Taken writing.old.rec.now general.now t writing.old.c → trailer.now ≡ trailer_of writing.old.rec.now t → get_or general.now 8 0 ≡ flag → Finishes (finished writing.old.rec.now (wrote general.now t (drop writing.old.c writing.old.rec.now) d)) start lent result writing.new.out.now }
 {
-    if !has_end(writing.rec, writing.c, flag, general, trailer) {
+    if !has_end(writing, flag, general, trailer) {
         return Err(Refusal::NotWellFormed);
     }
     extension(writing)?;

@@ -1,12 +1,14 @@
 // The steps of slots, whose numbers are coded in another order than the record has them.
 #![tactic(auto)]
 
-ghost use Rattle.std.specs.Prelude.{◌≡◌, drop};
+ghost use Rattle.std.specs.Prelude.{◌≡◌, ◌+◌, ◌-◌, length, drop};
 ghost use Rattle.bits.specs.Bits.{field_width};
 ghost use Rattle.vps_definition.specs.Vps.{slot_at};
+ghost use Rattle.ptl_slots.specs.Slot.{next_slot};
 ghost use Rattle.writing.specs.Reversed.{Sums};
 
 use crate::Writing;
+use record_parts::number_at;
 use refusals::Refusal;
 use table_steps::{Parts, Steps};
 
@@ -28,6 +30,16 @@ impl<'a> Writing<'a> {
         self.c += count as usize;
         Ok(sum)
     }
+
+    // The place of the slot behind the one at a place, or the record's end; a place past the end stays.
+    fn place_behind(&self, slot: usize) -> usize
+        ensures rest { drop result self.now.rec.now ≡ next_slot self.now.rec.now (drop slot self.now.rec.now) }
+        ensures place { result ≡ slot + (length (drop slot self.now.rec.now) - length (drop result self.now.rec.now)) }
+    {
+        let numbers = lists::behind(self.rec, slot);
+        let rest = ptl_slots::behind_slot(numbers);
+        slot + (numbers.len() - rest.len())
+    }
 }
 
 impl<'a> Parts for Writing<'a> {
@@ -39,16 +51,16 @@ impl<'a> Parts for Writing<'a> {
     }
 
     fn next_slot(&self, slot: usize) -> usize {
-        ptl_slots::skip_slot(self.rec, slot)
+        self.place_behind(slot)
     }
 
     fn slot_number(&mut self, slot: usize, j: usize, width: u32) -> Result<u32, Refusal> {
-        self.late(ptl_slots::number_from(self.rec, slot, j), width)
+        self.late(number_at(lists::behind(self.rec, slot), j), width)
     }
 
     // The length must be what the bits say, and the bits are coded as they stand behind it.
     fn constraints(&mut self) -> Result<(), Refusal> {
-        let more = (ptl_slots::more_constraints(self.rec, self.c) % 256) as u32;
+        let more = (ptl_slots::more_constraints(self.rest()) % 256) as u32;
         self.infer(77 + more)?;
         self.flags(77 + more as usize)
     }

@@ -1,31 +1,34 @@
 -- `has_end` meets its contract: each test that fails says why the parts don't make up the record.
-use Prim.Native.Nat.{◌+◌}
-use Rattle.write_end.specs.Ends.{no_room, no_total, no_general, no_trailer, looked, counted}
+use Rattle.std.proofs.Common.{sym, ap, length, ◌∙◌}
+use Rattle.std.proofs.lemmas.Bool.{not_from_false, not_from_true, not-true, not-false}
 use Rattle.write_end.specs.Numbers.{stands, stands_not}
-use borrow.Author.Tests.{not-true, not-false}
-use native.Mathlib.Omega.{arith}
-use Rattle.std.proofs.lemmas.Bool.{not_from_false, not_from_true}
+use Rattle.write_end.specs.Ends.{no_count, no_bits, no_end, no_general, no_trailer, looked}
 use Rattle.write_end.proofs.has_end.Goals as goal
 
-pub returns-then-left-lt-END : goal.returns-then-left-lt-END
-returns-then-left-lt-END c t T q f = no_room T (omega (arith, c.if-left-lt-END.true))
+pub returns-in_default : goal.returns-in_default
+returns-in_default c t T q f = no_count T (sym (ap length c.behind.ensures) ∙ c.in_default.ensures.cases)
 
-pub returns-then-left-count : goal.returns-then-left-count
-returns-then-left-count c t T q f = no_total T (counted c.args.rec.now c.args.c c.number_at-count.ensures) q f (λ e. c.if-left-count.true (omega (arith, e, c.if-left-lt-END.false)))
+pub returns-in_default-split_at_checked : goal.returns-in_default-split_at_checked
+returns-in_default-split_at_checked c t T q f = no_bits T (sym c.behind.ensures ∙ c.in-Some.ensures.cases.0) q f c.in_default-split_at_checked.ensures.cases
+
+pub returns-then-end-ne-TRAILER : goal.returns-then-end-ne-TRAILER
+returns-then-end-ne-TRAILER c t T q f =
+    let S = c.in-Some-split_at_checked.ensures.cases in
+    no_end T (sym c.behind.ensures ∙ c.in-Some.ensures.cases.0) q f S.2 S.4 c.if-end-ne-TRAILER.true
 
 pub returns-then-not-has_numbers : goal.returns-then-not-has_numbers
-returns-then-not-has_numbers c t T q f = no_general T (counted c.args.rec.now c.args.c c.number_at-count.ensures) q f (stands_not c.args.rec.now 0 c.args.general.now c.has_numbers.result c.has_numbers.ensures (not-true _ (not_from_false _ c.if-not-has_numbers.true)))
-
-pub overflow_add-c : goal.overflow_add-c
-overflow_add-c c = omega (arith, c.if-left-lt-END.false, c.if-left-count.false, c.ranges)
-
-pub overflow_add-c-2 : goal.overflow_add-c-2
-overflow_add-c-2 c = omega (arith, c.if-left-lt-END.false, c.if-left-count.false, c.ranges)
+returns-then-not-has_numbers c t T q f =
+    no_general T (sym c.behind.ensures ∙ c.in-Some.ensures.cases.0) q f (stands_not c.args.writing.now.rec.now c.args.general.now c.has_numbers.result c.has_numbers.ensures (not-true _ (not_from_false _ c.if-not-has_numbers.true)))
 
 pub returns-then-not-has_numbers-2 : goal.returns-then-not-has_numbers-2
-returns-then-not-has_numbers-2 c t T q f = no_trailer T (counted c.args.rec.now c.args.c c.number_at-count.ensures) q f (stands_not c.args.rec.now (c.args.c + 1 + c.number_at-count.result) c.args.trailer.now c.has_numbers-2.result c.has_numbers-2.ensures (not-true _ (not_from_false _ c.if-not-has_numbers-2.true)))
+returns-then-not-has_numbers-2 c t T q f =
+    let S = c.in-Some-split_at_checked.ensures.cases in
+    no_trailer T (sym c.behind.ensures ∙ c.in-Some.ensures.cases.0) q f S.2 S.4 (stands_not c.in-Some-split_at_checked.end.now c.args.trailer.now c.has_numbers-2.result c.has_numbers-2.ensures (not-true _ (not_from_false _ c.if-not-has_numbers-2.true)))
 
 pub returns : goal.returns
 returns c t T q f =
-    looked T (counted c.args.rec.now c.args.c c.number_at-count.ensures) q f _ (omega (arith, c.if-left-lt-END.false, c.if-left-count.false)) (stands c.args.rec.now 0 c.args.general.now c.has_numbers.result c.has_numbers.ensures (not-false _ (not_from_true _ c.if-not-has_numbers.false))) (stands c.args.rec.now (c.args.c + 1 + c.number_at-count.result) c.args.trailer.now c.has_numbers-2.result c.has_numbers-2.ensures (not-false _ (not_from_true _ c.if-not-has_numbers-2.false)))
+    let S = c.in-Some-split_at_checked.ensures.cases in
+    looked T (sym c.behind.ensures ∙ c.in-Some.ensures.cases.0) q f S.2 S.4 _ c.if-end-ne-TRAILER.false
+    (stands c.args.writing.now.rec.now c.args.general.now c.has_numbers.result c.has_numbers.ensures (not-false _ (not_from_true _ c.if-not-has_numbers.false)))
+    (stands c.in-Some-split_at_checked.end.now c.args.trailer.now c.has_numbers-2.result c.has_numbers-2.ensures (not-false _ (not_from_true _ c.if-not-has_numbers-2.false)))
     c.may_extend.ensures
