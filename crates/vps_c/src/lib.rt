@@ -86,6 +86,7 @@ pub extern "C" fn vps_ebsp_to_rbsp(source: &[u8], output: &mut [u8], length: &mu
 }
 
 // Stuffing added to an RBSP, into a lent output. Success stores the length of what was made; a refusal stores nothing.
+// As it is (2): each is an exported C name of its own, and C has no generic function.
 #[unsafe(no_mangle)]
 pub extern "C" fn vps_rbsp_to_ebsp(source: &[u8], output: &mut [u8], length: &mut u64) -> u32
     ensures tells { Tells (lent (stuff source.now) output.old) length.old result length.new }
