@@ -1,5 +1,6 @@
-// What a case expects of a step, and the steps by their numbers.
+// What a case of a step is asked with and expects, and the steps by their numbers.
 use refusals::Refusal;
+use replay_numbers::Content;
 
 // A step of the bit reader or of the bit writer.
 #[derive(Clone, Copy, Debug, PartialEq, Eq)]
@@ -46,6 +47,29 @@ impl Expected {
     // Whether a step without a value does.
     pub fn is_done(self, answer: Result<(), Refusal>) -> bool {
         is_answer(answer, self.number, ())
+    }
+}
+
+// The front of a case of reading or writing bits: place, width, number, value, place behind.
+#[derive(Clone, Copy)]
+pub struct Front {
+    pub at: usize,
+    pub width: u32,
+    pub expected: Expected,
+}
+
+// Taken from a case's content.
+impl<'a> From<&mut Content<'a>> for Front {
+    fn from(content: &mut Content<'a>) -> Front {
+        Front {
+            at: content.eight_bytes(),
+            width: content.four_bytes(),
+            expected: Expected {
+                number: u32::from(content.byte()),
+                value: content.four_bytes(),
+                next: content.eight_bytes(),
+            },
+        }
     }
 }
 

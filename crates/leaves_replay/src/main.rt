@@ -1,6 +1,7 @@
 // Replays recorded answers on stuffing, reading bits and writing bits, and prints how many there are and how many differ.
 #![tactic(auto)]
 
+mod asked;
 mod chain;
 mod content;
 mod expected;
@@ -8,23 +9,25 @@ mod reading;
 mod stuffed;
 mod writing;
 
-use expected::Step;
+use asked::Asked;
 use replay_list::Replayer;
+use replay_numbers::Content;
 
 // Stuffing, the bit reader and the bit writer.
 struct Leaves;
 
 impl Replayer for Leaves {
-    // Tags 1 to 3 are stuffing, to 7 questions, from 11 on steps of the reader, from 21 on steps of the writer, and 30 is a
-    // chain.
     fn is_same(&self, tag: u8, content: &[u8]) -> bool {
         let mut out = [0u8; 1024];
-        match tag {
-            0..=3 => stuffed::is_same(tag, content, &mut out),
-            4..=10 => reading::is_question_same(tag, content),
-            11..=20 => reading::is_step_same(Step::from(tag - 10), content),
-            21..=29 => writing::is_same(Step::from(tag - 20), content, &mut out),
-            _ => chain::is_same(content, &mut out),
+        let content = Content { rest: content };
+        match Asked::from(tag) {
+            Asked::Unstuffing => stuffed::is_same(content, &mut out, stuffing::ebsp_to_rbsp),
+            Asked::RbspLength => stuffed::is_length_same(content),
+            Asked::Stuffing => stuffed::is_same(content, &mut out, stuffing::rbsp_to_ebsp),
+            Asked::Question(question) => reading::is_question_same(question, content),
+            Asked::Reading(step) => reading::is_step_same(step, content),
+            Asked::Writing(step) => writing::is_same(step, content, &mut out),
+            Asked::Chain => chain::is_same(content, &mut out),
         }
     }
 }

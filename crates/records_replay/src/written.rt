@@ -14,8 +14,9 @@ struct Again {
     more: usize,
 }
 
-impl Again {
-    fn read(content: &mut Content) -> Again {
+// The next two numbers.
+impl<'a> From<&mut Content<'a>> for Again {
+    fn from(content: &mut Content<'a>) -> Again {
         Again {
             index: content.number() as usize,
             more: content.number() as usize,
@@ -42,8 +43,8 @@ impl<'a> Case<'a> {
         let number = content.number();
         let room = content.number() as usize;
         let length = content.number() as usize;
-        let number_again = Again::read(&mut content);
-        let byte_again = Again::read(&mut content);
+        let number_again = Again::from(&mut content);
+        let byte_again = Again::from(&mut content);
         let bytes = content.number() as usize;
         Case {
             answer: match number {
@@ -64,11 +65,11 @@ impl<'a> Case<'a> {
         let again = self.number_again;
         let mut numbers = self.numbers;
         let (before, record) = record.split_at_mut(again.index.min(record.len()));
-        put_numbers(&mut numbers, before);
+        numbers.put_numbers(before);
         let (same, behind) = record.split_at_mut(again.more.min(record.len()));
         let mut here = numbers;
         same.fill(here.number());
-        put_numbers(&mut numbers, behind);
+        numbers.put_numbers(behind);
     }
 
     // What stands behind the unit in an output that begins with it.
@@ -105,13 +106,6 @@ impl<'a> Case<'a> {
 // Whether what stands in an output from an index on is as before.
 fn is_untouched(part: &[u8], from: usize) -> bool {
     part.iter().zip(from..).all(|(byte, i)| *byte == pattern(i))
-}
-
-// Puts numbers one after the other.
-fn put_numbers(numbers: &mut Content, record: &mut [u32]) {
-    for number in record.iter_mut() {
-        *number = numbers.number();
-    }
 }
 
 // Replays a case on the beginnings of two buffers, of just the lengths recorded.

@@ -1,6 +1,6 @@
 -- Numbers of several bytes, the highest byte first; past the end each byte is 0.
-use Rattle.std.specs.Prelude.{ℕ, ◌+◌, ◌*◌, ◌<◌, ◌≤◌, ◌≡◌, refl, cond, List, ltb, get_or, drop, length}
-use Rattle.std.proofs.Common.{lt-ltb, le-ltb}
+use Rattle.std.specs.Prelude.{ℕ, zero, suc, ◌+◌, ◌*◌, ◌<◌, ◌≤◌, ◌≡◌, refl, cond, List, ltb, get_or, drop, length}
+use Rattle.std.proofs.Common.{lt-ltb, le-ltb, add-one}
 
 abbrev pub two : List ℕ → ℕ
 two x = get_or x 0 0 * 256 + get_or x 1 0
@@ -33,3 +33,16 @@ place_behind_byte x at h b = rw (lt-ltb at (length x) h, lt-ltb (get_or x at 0) 
 
 pub place_behind_four : (x : List ℕ) (at : ℕ) → at < length x → 255 ≤ get_or x at 0 → place_behind x at ≡ at + 5
 place_behind_four x at h b = rw (lt-ltb at (length x) h, le-ltb (get_or x at 0) 255 b) refl
+
+-- What stands behind so many numbers.
+unfoldable pub behind_numbers : List ℕ → ℕ → List ℕ
+behind_numbers x zero = x
+behind_numbers x (suc n) = drop (place_behind (behind_numbers x n) 0) (behind_numbers x n)
+
+pub behind_none : (x : List ℕ) → x ≡ behind_numbers x 0
+unfolding behind_numbers
+behind_none x = refl
+
+pub behind_more : (x rest : List ℕ) (n : ℕ) → rest ≡ behind_numbers x n → drop (place_behind rest 0) rest ≡ behind_numbers x (n + 1)
+unfolding behind_numbers
+behind_more x rest n e = rw (add-one n, e) refl

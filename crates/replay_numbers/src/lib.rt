@@ -2,9 +2,7 @@
 #![tactic(auto)]
 
 ghost use Rattle.std.specs.Prelude.{ℕ, ◌≡◌, ◌-◌, ◌%◌, ◌<◌, get_or, take, drop, length, HoldsAt};
-ghost use Rattle.replay_numbers.specs.Numbers.{two, four, eight, number_at, place_behind};
-
-use replay_parts::{behind, first};
+ghost use Rattle.replay_numbers.specs.Numbers.{two, four, eight, number_at, place_behind, behind_numbers};
 
 // The first N bytes; past the end each byte is 0.
 fn padded<const N: usize>(content: &[u8]) -> [u8; N]
@@ -18,21 +16,21 @@ fn padded<const N: usize>(content: &[u8]) -> [u8; N]
 }
 
 // The number of the first two bytes, the highest byte first.
-pub fn two_bytes(content: &[u8]) -> u32
+fn two_bytes(content: &[u8]) -> u32
     ensures { (result ≡ two content.now) × (result < 65536) }
 {
     u32::from(u16::from_be_bytes(padded(content)))
 }
 
 // The number of the first four bytes.
-pub fn four_bytes(content: &[u8]) -> u32
+fn four_bytes(content: &[u8]) -> u32
     ensures { result ≡ four content.now }
 {
     u32::from_be_bytes(padded(content))
 }
 
 // The number of the first eight bytes.
-pub fn eight_bytes(content: &[u8]) -> usize
+fn eight_bytes(content: &[u8]) -> usize
     ensures { result ≡ eight content.now }
 {
     usize::from_be_bytes(padded(content))
@@ -50,8 +48,8 @@ impl<'a> Content<'a> {
         ensures value { result.now ≡ take n self.old.rest.now }
         ensures rest { self.new.rest.now ≡ drop n self.old.rest.now }
     {
-        let bytes = first(self.rest, n);
-        self.rest = behind(self.rest, n);
+        let (bytes, rest) = self.rest.split_at(n.min(self.rest.len()));
+        self.rest = rest;
         bytes
     }
 
@@ -81,6 +79,14 @@ impl<'a> Content<'a> {
         four_bytes(self.bytes(4))
     }
 
+    // The number of the next eight bytes.
+    pub fn eight_bytes(&mut self) -> usize
+        ensures value { result ≡ eight self.old.rest.now }
+        ensures rest { self.new.rest.now ≡ drop 8 self.old.rest.now }
+    {
+        eight_bytes(self.bytes(8))
+    }
+
     // The next number among others: a byte below 255, or 255 and four bytes.
     pub fn number(&mut self) -> u32
         ensures value { result ≡ number_at self.old.rest.now 0 }
@@ -92,6 +98,17 @@ impl<'a> Content<'a> {
         }
         self.four_bytes()
     }
+
+    // Puts the next numbers into a record, one after the other.
+    pub fn put_numbers(&mut self, numbers: &mut [u32])
+        ensures len { length numbers.new ≡ length numbers.old }
+        ensures value { (k : ℕ) → k < length numbers.new → get_or numbers.new k 0 ≡ number_at (behind_numbers self.old.rest.now k) 0 }
+        ensures rest { self.new.rest.now ≡ behind_numbers self.old.rest.now (length numbers.old) }
+    {
+        for number in numbers.iter_mut() {
+            *number = self.number();
+        }
+    }
 }
 
 // What an output holds beforehand at an index.
@@ -102,6 +119,7 @@ pub fn pattern(i: usize) -> u8
 }
 
 // Fills a buffer with what it holds beforehand.
+// As it is (4): `fill` puts one value everywhere, and `fill_with` gives its closure no index, which it would count by hand.
 pub fn fill_pattern<T: From<u8> + Drop>(buffer: &mut [T])
     ensures { (k : ℕ) → k < length buffer.new → HoldsAt (λ y. T.from_gives (255 - k % 256) y) buffer.new k }
 {

@@ -14,15 +14,18 @@ struct Part {
     count: usize,
 }
 
-impl Part {
-    fn read(content: &mut Content) -> Part {
+// The next of the parts.
+impl<'a> From<&mut Content<'a>> for Part {
+    fn from(content: &mut Content<'a>) -> Part {
         Part {
             section: content.number(),
             start: content.number() as usize,
             count: content.number() as usize,
         }
     }
+}
 
+impl Part {
     // Whether the section is this part of the record.
     fn is_in(self, record: &[u32]) -> bool {
         let found = section_part(record, self.section);
@@ -37,9 +40,9 @@ impl Part {
 }
 
 // Whether so many parts are as recorded, and nothing is behind them.
-fn are_parts(content: &mut Content, count: u32, record: &[u32]) -> bool {
+fn are_parts(mut content: Content, count: u32, record: &[u32]) -> bool {
     for _ in 0..count {
-        if !Part::read(content).is_in(record) {
+        if !Part::from(&mut content).is_in(record) {
             return false;
         }
     }
@@ -55,8 +58,6 @@ pub fn is_same(content: &[u8]) -> bool {
     let Some(record) = record.get_mut(..length) else {
         return false;
     };
-    for number in record.iter_mut() {
-        *number = content.number();
-    }
-    are_parts(&mut content, count, record)
+    content.put_numbers(record);
+    are_parts(content, count, record)
 }

@@ -1,7 +1,7 @@
 // The rows of a page's table: a bar, a blank, the number, a blank, a bar, a blank, the sentence, a blank, a bar.
 ghost use Rattle.std.specs.Prelude.{◌≤◌, MatchOption, ⊤};
 
-use replay_parts::{behind, first};
+use lists::behind;
 
 // What a byte stands for as a digit.
 fn digit_of(byte: u8) -> Option<u32>
@@ -49,7 +49,7 @@ pub fn number(line: &[u8]) -> u32 {
 // The bytes before a blank and a bar.
 fn cell(bytes: &[u8]) -> &[u8] {
     match behind(bytes, 1).iter().position(|byte| *byte == b'|') {
-        Some(end) => first(bytes, end),
+        Some(end) => bytes.get(..end).unwrap_or(bytes),
         None => bytes,
     }
 }

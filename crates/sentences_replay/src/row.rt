@@ -51,7 +51,8 @@ fn no_beginning(bytes: &[u8]) -> bool {
     true
 }
 
-// Whether no other byte at a place of the first so many gives a number. Afterwards the bytes are as before.
+// Whether no other byte at a place gives a number. Afterwards the bytes are as before.
+// As it is (6): `sentence_number` takes the whole text, and the place says which of its bytes is another; a part of the text won't do.
 fn no_other_byte(bytes: &mut [u8], at: usize) -> bool
     requires { at < length bytes.old }
     ensures { length bytes.new ≡ length bytes.old }

@@ -89,9 +89,7 @@ impl<'a> Case<'a> {
         let expected = &mut expected[..record.len()];
         fill_pattern(expected);
         let mut numbers = self.numbers;
-        for number in expected[..length].iter_mut() {
-            *number = numbers.number();
-        }
+        numbers.put_numbers(&mut expected[..length]);
         record == &*expected
     }
 

@@ -1,7 +1,7 @@
 // Reads one unit from standard input, writes its record, and prints whether the bytes are the same.
 #![tactic(auto)]
 
-ghost use Rattle.std.specs.Prelude.{◌≡◌, take};
+ghost use Rattle.std.specs.Prelude.{◌≡◌};
 ghost use Rattle.lists.specs.Same.{same};
 ghost use Rattle.vps_definition.specs.Writing.{write_record};
 ghost use Rattle.vps_back.specs.Back.{said, written_back, back};
@@ -47,17 +47,6 @@ fn is_same(a: &[u8], b: &[u8]) -> bool
     a == b
 }
 
-// The first n numbers, or all where there are fewer.
-fn first(record: &[u32], n: usize) -> &[u32]
-    ensures { result.now ≡ take n «record».now }
-{
-    if n <= record.len() {
-        &record[0..n]
-    } else {
-        record
-    }
-}
-
 // A record, written and compared with the unit.
 fn written_back(unit: &[u8], record: &[u32]) -> Result<Back, NotBack>
     ensures { said result ≡ written_back unit.now (write_record «record».now) }
@@ -79,7 +68,7 @@ fn way_back(unit: &[u8]) -> Result<Back, NotBack>
     let mut work = [0u8; UNIT_BYTES];
     let mut record = [0u32; RECORD_NUMBERS];
     match parse_vps(unit, &mut work, &mut record) {
-        Ok(parsed) => written_back(unit, first(&record, parsed.numbers)),
+        Ok(parsed) => written_back(unit, &record[..parsed.numbers.min(record.len())]),
         Err(not_parsed) => Err(NotBack::NotRead(not_parsed.refusal())),
     }
 }

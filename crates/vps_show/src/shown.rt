@@ -3,7 +3,7 @@ ghost use Rattle.std.specs.Prelude.{◌≡◌, ◌∷◌, ◌++◌};
 ghost use Rattle.vps_reader.specs.Answers.{parsed_answer};
 ghost use Rattle.texts.specs.Adds.{Adds};
 ghost use Rattle.text_numbers.specs.Decimal.{decimal};
-ghost use Rattle.vps_show.specs.Shown.{newline, part, line, record_text, shown};
+ghost use Rattle.vps_show.specs.Shown.{newline, spaced, part, record_text, shown};
 
 use crate::text::{put_number, put_numbers};
 use record_parts::{end_of, start_of};
@@ -24,6 +24,7 @@ const NAMES: [&'static str; 9] = [
 ];
 
 // The numbers of a section.
+// As it is (6): k is a section's number, from 0 to 8, and no place in the record or length of it.
 fn section(record: &[u32], k: usize) -> &[u32]
     ensures { result.now ≡ part «record».now k }
 {
@@ -32,11 +33,11 @@ fn section(record: &[u32], k: usize) -> &[u32]
 }
 
 // A section's name and its numbers.
-fn put_line(text: &mut Text, name: &str, record: &[u32], k: usize)
-    ensures { Adds (line name.now «record».now k) text.old text.new }
+fn put_line(text: &mut Text, name: &str, numbers: &[u32])
+    ensures { Adds (name.now ++ spaced numbers.now ++ newline) text.old text.new }
 {
     text.put(name.as_bytes());
-    put_numbers(text, section(record, k));
+    put_numbers(text, numbers);
     text.put(b"\n");
 }
 
@@ -44,7 +45,7 @@ fn put_record(text: &mut Text, record: &[u32])
     ensures { Adds (record_text «record».now) text.old text.new }
 {
     for (k, name) in NAMES.iter().enumerate() {
-        put_line(text, name, record, k);
+        put_line(text, name, section(record, k));
     }
 }
 
