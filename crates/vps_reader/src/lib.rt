@@ -80,6 +80,7 @@ fn store_trailer(trailer: &mut [u32], starts: [usize; Record::STARTS], total: us
 }
 
 // Stores the extension: how many bits there are, and the bits, which stand from a place on.
+// As it is (6): the place is one among the bits, so no rest of the bytes starts there.
 fn store_extension(extension: &mut [u32], bytes: &[u8], at: usize)
     ensures { (n : ℕ) → length extension.old ≡ n + 1 → at + n < 2 ^ 32 → extension.new ≡ n ∷ bits_at bytes.now at n }
 {
@@ -90,30 +91,30 @@ fn store_extension(extension: &mut [u32], bytes: &[u8], at: usize)
 }
 
 // Stores the table's numbers: copied where the first pass has kept them all, else read again.
-fn store_table(bytes: &[u8], small: &[u32], record: &mut [u32], table: Table)
-    requires { table.n ≤ length «record».old }
-    ensures { (T : TableIs bytes.now table) (lent : List ℕ) → small.now ≡ sets lent 9 (numbers T.kept) → «record».new ≡ sets «record».old 9 (numbers T.kept) }
+fn store_table(bytes: &[u8], small: &[u32], rec: &mut [u32], table: Table)
+    requires { table.n ≤ length rec.old }
+    ensures { (T : TableIs bytes.now table) (lent : List ℕ) → small.now ≡ sets lent 9 (numbers T.kept) → rec.new ≡ sets rec.old 9 (numbers T.kept) }
 {
     match small.get(Record::GENERAL..table.n) {
-        Some(kept) => record[Record::GENERAL..table.n].copy_from_slice(kept),
+        Some(kept) => rec[Record::GENERAL..table.n].copy_from_slice(kept),
         None => {
-            let _ = read_vps::read_vps(bytes, record);
+            let _ = read_vps::read_vps(bytes, rec);
         }
     }
 }
 
 // The second pass: the whole record is stored.
-fn fill(bytes: &[u8], small: &[u32], record: &mut [u32], m: Measured)
-    requires { (m.table.n + m.count + 9 < 2 ^ 32) × (m.table.n + m.count + 9 ≤ length «record».old) }
-    ensures { (lent : List ℕ) (K : Kept bytes.now lent small.now m.table m.count m.bits) → «record».new ≡ sets «record».old 0 (record_in K.found) }
+fn fill(bytes: &[u8], small: &[u32], rec: &mut [u32], m: Measured)
+    requires { (m.table.n + m.count + 9 < 2 ^ 32) × (m.table.n + m.count + 9 ≤ length rec.old) }
+    ensures { (lent : List ℕ) (K : Kept bytes.now lent small.now m.table m.count m.bits) → rec.new ≡ sets rec.old 0 (record_in K.found) }
 {
     let table = m.table;
-    record[..Record::GENERAL].copy_from_slice(&table.whole.general);
-    store_table(bytes, small, record, table);
+    rec[..Record::GENERAL].copy_from_slice(&table.whole.general);
+    store_table(bytes, small, rec, table);
     let trailer = table.n + 1 + m.count;
     let end = trailer + Record::TRAILER;
-    store_extension(&mut record[table.n..trailer], bytes, table.at);
-    store_trailer(&mut record[trailer..end], table.whole.starts, end);
+    store_extension(&mut rec[table.n..trailer], bytes, table.at);
+    store_trailer(&mut rec[trailer..end], table.whole.starts, end);
 }
 
 // The record where it fits.

@@ -9,5 +9,5 @@ pub returns-in-Some : goal.returns-in-Some
 returns-in-Some c T lent h =
     let at = c.in-Some.ensures.lookup.0 in
     let same = c.copy_from_slice.ensures.after ∙ at.2 ∙ part_stored lent c.args.small.now 9 c.args.table.n (numbers T.kept) h T.count at.1 in
-    written_part c.args.record.now c.copy_from_slice.new.self 9 (ap length same ∙ omega (arith, T.count)) (omega (arith, at.0, c.requires))
-    ∙ ap (sets c.args.record.now 9) same
+    written_part c.args.rec.now c.copy_from_slice.new.self 9 (ap length same ∙ omega (arith, T.count)) (omega (arith, at.0, c.requires))
+    ∙ ap (sets c.args.rec.now 9) same
