@@ -7,7 +7,7 @@ use native.Mathlib.Omega.{arith}
 use native.Mathlib.Numerals.{add-one}
 use lib.Dec.{leb, ltb, eqb}
 use borrow.Author.Tests.{le-leb, lt-leb, leb-true, ne_eqb}
-use lib.ListN.{length, get_or, drop, set, length-set, drop_of_length-le}
+use lib.ListN.{length, get_or, drop, set, length-append, length-set, drop_of_length-le}
 use lib.Seq.{set-set, sets-eq, sets, drop-cons}
 use Rattle.refusals.specs.Answer.Answer.{success, refusal}
 use Rattle.refusals.specs.Number.{output_too_short}
@@ -61,6 +61,9 @@ written_byte {o = o} {n = n} {b = b} w e =
 written_all : {t o₀ o : List ℕ} {n : ℕ} → Written t o₀ [] o n → record { counted : n ≡ length t; stored : o ≡ sets o₀ 0 t }
 written_all w = record { counted = omega (arith, w.total); stored = w.whole }
 
+written_room : {t o₀ rest o : List ℕ} {n : ℕ} → Written t o₀ rest o n → length t ≤ length o₀ → n + length rest ≤ length o
+written_room w room = omega (arith, w.long, w.total)
+
 -- ── Removing ──────────────────────────────────────────────────────────
 -- before a turn: i bytes of s are read and end in z zeros, and n are stored
 pub record Removing (s o₀ o : List ℕ) (i n z : ℕ) : Type 0 where
@@ -82,6 +85,9 @@ module _ {s o₀ o : List ℕ} {i n : ℕ} (a b : ℕ) (l : Removing s o₀ o i 
 
   pub removing_keep : {o' : List ℕ} → dropped (zeros_in a b) (get_or s i 0) ≡ false → o' ≡ set o n (get_or s i 0) → Removing s o₀ o' (i + 1) (n + 1) (zeros_in b (get_or s i 0))
   removing_keep test stored = record { few = omega arith; written = written_byte (rw (removing_next test) at l.written) stored }
+
+  pub removing_room : dropped (zeros_in a b) (get_or s i 0) ≡ false → length (unstuff s) ≤ length o₀ → n < length o
+  removing_room test room = omega (arith, written_room l.written room, ap length (removing_next test))
 
 pub removing_done : {s o₀ o : List ℕ} {i n z : ℕ} → Removing s o₀ o i n z → length s ≤ i
     → record { counted : n ≡ length (unstuff s); stored : o ≡ sets o₀ 0 (unstuff s) }
@@ -116,6 +122,12 @@ module _ {s o₀ o : List ℕ} {i n z : ℕ} (l : Adding s o₀ o i n z) (h : i 
       let step : stuff_behind z (drop i s) ≡ get_or s i 0 ∷ stuff_behind (zeros_behind z (get_or s i 0)) (drop (i + 1) s) = rw test at adding_next in
       record { few = omega arith; written = rw counted (written_byte (rw step at l.written) stored) }
 
+  adding_room : length (stuff s) ≤ length o₀ → n + length (added z (get_or s i 0)) ≤ length o
+  adding_room room =
+      let x : List ℕ = added z (get_or s i 0) in
+      let y : List ℕ = stuff_behind (zeros_added z (get_or s i 0)) (drop (i + 1) s) in
+      omega (arith, written_room l.written room, ap length adding_next, length-append x y)
+
 -- by the last two bytes, a and b
 module _ {s o₀ o : List ℕ} {i n : ℕ} (a b : ℕ) (l : Adding s o₀ o i n (zeros_in a b)) (h : i < length s) where
   abbrev c : ℕ
@@ -149,17 +161,39 @@ module _ {s o₀ o : List ℕ} {i n : ℕ} (a b : ℕ) (l : Adding s o₀ o i n 
           rw next
           (adding_plain l h (ap (λ (t : Bool). t && leb c 3) e) (second ∙ (λ j. set (first j) (here j) c) ∙ set-set o n 3 c) (ap (λ (k : ℕ). zeros_in k c) same ∙ zeros_after a b c))
 
+  -- there is room for both
+  pub large_room : length (stuff s) ≤ length o₀ → n < length o
+  large_room room = omega (arith, adding_room l h room, some (guarded (zeros_in a b) c)) where
+    some : (t : Bool) → 1 ≤ length {A = ℕ} (cond t (3 ∷ c ∷ []) (c ∷ []))
+    some true = omega arith
+    some false = omega arith
+
+  pub small_room : (m : ℕ) → c ≤ 3 → m ≡ more_in a b → length (stuff s) ≤ length o₀ → n + m < length o
+  small_room m small more room = omega (arith, adding_room l h room, some (leb 2 (zeros_in a b)) (leb c 3) (le-leb c 3 small), more) where
+    some : (t u : Bool) → u ≡ true → length {A = ℕ} (cond (t && u) (3 ∷ c ∷ []) (c ∷ [])) ≡ 1 + cond t 1 0
+    some true u e = rw e refl
+    some false u e = refl
+
 module _ {s o₀ o : List ℕ} {i n : ℕ} (a b : ℕ) (l : Adding s o₀ o i n (zeros_in a b)) (h : length s ≤ i) where
   ending : {t : Bool} → leb 2 (zeros_in a b) ≡ t → Written (stuff s) o₀ (cond t (3 ∷ []) []) o n
   unfolding stuff_behind
   ending test = rw (drop_of_length-le s h, test) at l.written
 
   module _ (m : ℕ) (more : m ≡ more_in a b) where
-    pub adding_last : {o' : List ℕ} → m ≡ 1 → o' ≡ set o n 3 → record { counted : n + 1 ≡ length (stuff s); stored : o' ≡ sets o₀ 0 (stuff s) }
-    adding_last one stored = written_all (written_byte (ending (more_one more one)) stored)
+    pub adding_last : {o' : List ℕ} → m ≡ 1 → o' ≡ set o n 3 → o' ≡ sets o₀ 0 (stuff s)
+    adding_last one stored = (written_all (written_byte (ending (more_one more one)) stored)).stored
 
-    pub adding_done : (m ≡ 1 → ⊥) → record { counted : n ≡ length (stuff s); stored : o ≡ sets o₀ 0 (stuff s) }
-    adding_done other = written_all (ending (more_none more other))
+    pub last_room : m ≡ 1 → length (stuff s) ≤ length o₀ → n < length o
+    last_room one room = omega (arith, written_room (ending (more_one more one)) room)
+
+    pub adding_done : (m ≡ 1 → ⊥) → o ≡ sets o₀ 0 (stuff s)
+    adding_done other = (written_all (ending (more_none more other))).stored
+
+    pub adding_counted : n + m ≡ length (stuff s)
+    adding_counted = go (leb 2 (zeros_in a b)) refl where
+      go : (t : Bool) → leb 2 (zeros_in a b) ≡ t → n + m ≡ length (stuff s)
+      go true e = ap (λ (k : ℕ). n + k) (more ∙ ap (λ (t : Bool). cond t 1 0) e) ∙ (ending e).total
+      go false e = ap (λ (k : ℕ). n + k) (more ∙ ap (λ (t : Bool). cond t 1 0) e) ∙ (ending e).total
 
 -- ── Room ──────────────────────────────────────────────────────────────
 pub room_removed : (s : List ℕ) {room : ℕ} → length s ≤ room → true ≡ leb (length (unstuff s)) room

@@ -1,7 +1,7 @@
 // Adds emulation prevention bytes to an RBSP and removes them from a NAL unit's payload.
 #![tactic(auto)]
 
-ghost use Rattle.std.specs.Prelude.{◌≤◌, ◌≡◌, leb, length, set};
+ghost use Rattle.std.specs.Prelude.{◌≤◌, ◌≡◌, IsTrue, leb, length, set};
 ghost use Rattle.std.proofs.lemmas.List.Edits.{sets};
 ghost use Rattle.refusals.specs.Lent.{lent, output_after};
 ghost use Rattle.refusals.specs.Refusals.{answer_of};
@@ -11,6 +11,7 @@ ghost use Rattle.stuffing.specs.Machine.{dropped, zeros_in, more_in};
 use refusals::Refusal;
 
 // Stores a byte where the output has such a place.
+// As it is (6): writers count on behind the end of an output that is too short, where no rest of the slice begins.
 pub fn store(out: &mut [u8], at: usize, b: u8)
     ensures { out.new ≡ set out.old at b }
 {
@@ -46,10 +47,11 @@ fn is_dropped(before: u8, last: u8, b: u8) -> bool
     before == 0 && last == 0 && b == 3
 }
 
-// Stores what removing leaves as far as there is room for it, and counts it in any case.
-fn remove(ebsp: &[u8], out: &mut [u8]) -> usize
+// Counts what removing leaves, and stores it where STORES says so: it then has room, and no byte is tested for it.
+fn remove<const STORES: bool>(ebsp: &[u8], out: &mut [u8]) -> usize
+    requires { IsTrue STORES → length (unstuff ebsp.now) ≤ length out.old }
     ensures counted { result ≡ length (unstuff ebsp.now) }
-    ensures stored { out.new ≡ sets out.old 0 (unstuff ebsp.now) }
+    ensures stored { IsTrue STORES → out.new ≡ sets out.old 0 (unstuff ebsp.now) }
 {
     let mut n = 0;
     let mut before = 1;
@@ -59,7 +61,9 @@ fn remove(ebsp: &[u8], out: &mut [u8]) -> usize
             last = 3;
             continue;
         }
-        store(out, n, b);
+        if STORES {
+            out[n] = b;
+        }
         n += 1;
         before = last;
         last = b;
@@ -71,14 +75,14 @@ fn remove(ebsp: &[u8], out: &mut [u8]) -> usize
 pub fn rbsp_length(ebsp: &[u8]) -> usize
     ensures { result ≡ length (unstuff ebsp.now) }
 {
-    remove(ebsp, &mut [])
+    remove::<false>(ebsp, &mut [])
 }
 
 // Whether what removing leaves has room.
-fn has_room_removed(ebsp: &[u8], room: usize) -> bool
-    ensures { result ≡ leb (length (unstuff ebsp.now)) room }
+fn has_room_removed(ebsp: &[u8], out: &[u8]) -> bool
+    ensures { result ≡ leb (length (unstuff ebsp.now)) (length out.now) }
 {
-    ebsp.len() <= room || rbsp_length(ebsp) <= room
+    ebsp.len() <= out.len() || rbsp_length(ebsp) <= out.len()
 }
 
 // Removes the stuffing of a payload into a lent output: `Ok` says how many bytes were written; those behind them are as before.
@@ -87,8 +91,8 @@ pub fn ebsp_to_rbsp(ebsp: &[u8], rbsp: &mut [u8]) -> Result<usize, Refusal>
     ensures answered { answer_of result ≡ lent (unstuff ebsp.now) rbsp.old }
     ensures left { rbsp.new ≡ output_after (unstuff ebsp.now) rbsp.old }
 {
-    if has_room_removed(ebsp, rbsp.len()) {
-        Ok(remove(ebsp, rbsp))
+    if has_room_removed(ebsp, rbsp) {
+        Ok(remove::<true>(ebsp, rbsp))
     } else {
         Err(Refusal::OutputTooShort)
     }
@@ -102,55 +106,59 @@ fn more_before(before: usize, last: usize) -> usize
     if before == 0 && last == 0 { 1 } else { 0 }
 }
 
-// Stores what adding makes as far as there is room for it, and counts it in any case. Before a byte up to 03 a 03 is stored;
-// the byte takes its place, or the next one.
-fn add(rbsp: &[u8], out: &mut [u8]) -> usize
+// Counts what adding makes, and stores it where STORES says so, in the same way. Before a byte up to 03 a 03 is stored; the byte
+// takes its place, or the next one.
+fn add<const STORES: bool>(rbsp: &[u8], out: &mut [u8]) -> usize
+    requires { IsTrue STORES → length (stuff rbsp.now) ≤ length out.old }
     ensures counted { result ≡ length (stuff rbsp.now) }
-    ensures stored { out.new ≡ sets out.old 0 (stuff rbsp.now) }
+    ensures stored { IsTrue STORES → out.new ≡ sets out.old 0 (stuff rbsp.now) }
 {
     let mut n = 0;
     let mut before: usize = 1;
     let mut last: usize = 1;
     for &b in rbsp {
         if b > 3 {
-            store(out, n, b);
+            if STORES {
+                out[n] = b;
+            }
             n += 1;
             last = 4;
             continue;
         }
         let more = more_before(before, last);
-        store(out, n, 3);
-        store(out, n + more, b);
+        if STORES {
+            out[n] = 3;
+            out[n + more] = b;
+        }
         n += 1 + more;
         before = last + more;
         last = b as usize;
     }
-    if more_before(before, last) == 1 {
-        store(out, n, 3);
-        n + 1
-    } else {
-        n
+    let more = more_before(before, last);
+    if STORES && more == 1 {
+        out[n] = 3;
     }
+    n + more
 }
 
 // The length of what adding makes.
 fn ebsp_length(rbsp: &[u8]) -> usize
     ensures { result ≡ length (stuff rbsp.now) }
 {
-    add(rbsp, &mut [])
+    add::<false>(rbsp, &mut [])
 }
 
 // Whether what adding makes has room: at most one byte is added for two.
-fn has_room_added(rbsp: &[u8], room: usize) -> bool
-    ensures { result ≡ leb (length (stuff rbsp.now)) room }
+fn has_room_added(rbsp: &[u8], out: &[u8]) -> bool
+    ensures { result ≡ leb (length (stuff rbsp.now)) (length out.now) }
 {
-    if room < rbsp.len() {
+    if out.len() < rbsp.len() {
         return false;
     }
-    if rbsp.len() / 2 <= room - rbsp.len() {
+    if rbsp.len() / 2 <= out.len() - rbsp.len() {
         return true;
     }
-    ebsp_length(rbsp) <= room
+    ebsp_length(rbsp) <= out.len()
 }
 
 // Adds stuffing to an RBSP into a lent output: `Ok` says how many bytes were written; those behind them are as before. A refusal
@@ -159,8 +167,8 @@ pub fn rbsp_to_ebsp(rbsp: &[u8], ebsp: &mut [u8]) -> Result<usize, Refusal>
     ensures answered { answer_of result ≡ lent (stuff rbsp.now) ebsp.old }
     ensures left { ebsp.new ≡ output_after (stuff rbsp.now) ebsp.old }
 {
-    if has_room_added(rbsp, ebsp.len()) {
-        Ok(add(rbsp, ebsp))
+    if has_room_added(rbsp, ebsp) {
+        Ok(add::<true>(rbsp, ebsp))
     } else {
         Err(Refusal::OutputTooShort)
     }

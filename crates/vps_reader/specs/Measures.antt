@@ -1,6 +1,6 @@
 -- What the first pass over an RBSP finds: a refusal, or all that the second pass needs to fill a record.
 use Rattle.std.specs.Prelude.{ℕ, ◌+◌, ◌-◌, ◌≤◌, ◌<◌, ◌*◌, ◌^◌, ◌≡◌, refl, List, Bool, true, false, eqb, length, get_or, Result, Ok, Err}
-use Rattle.std.proofs.Common.{sym, ◌∙◌, subst, arith, le-leb}
+use Rattle.std.proofs.Common.{sym, ◌∙◌, arith, le-leb}
 use Rattle.std.proofs.Math.Path.{ap}
 use Rattle.std.proofs.lemmas.Bool.{lt-leb}
 use Rattle.std.proofs.lemmas.List.Edits.{sets}
@@ -9,9 +9,7 @@ use Rattle.refusals.specs.Number.{rbsp_too_long}
 use Rattle.bits.specs.Reading.{trailing_at}
 use Rattle.bits.specs.TrailingLaws.{trails, trails_inside}
 use Rattle.vps_definition.specs.Rules.{today}
-use Rattle.vps_definition.specs.Syntax.{Token, numbers, starts, Outcome, run}
-use Rattle.vps_definition.specs.Syntax.Outcome.{accepted, refused}
-use Rattle.vps_definition.specs.Vps.{vps}
+use Rattle.vps_definition.specs.Syntax.{numbers, starts}
 use Rattle.vps_definition.specs.Record.{record_of}
 use Rattle.vps_definition.specs.Reading.{bits_at, data_bits, extension_bits, ended, closed, read_rbsp_under, read_rbsp, limited_by, read_limited, most_rbsp_bytes}
 use Rattle.vps_definition.specs.Reading.Reading.{accepts, refuses}

@@ -1,6 +1,7 @@
 -- A record that is stored part by part from the first number on is the whole record.
-use Rattle.std.specs.Prelude.{ℕ, suc, ◌+◌, ◌-◌, ◌≤◌, ◌<◌, ◌≡◌, refl, List, [], ◌∷◌, ◌++◌, length, get_or, set, take, drop}
-use Rattle.std.proofs.Common.{sym, ap, ◌∙◌, zero-add, add-one, append_assoc, arith, length-append, length-take-le, take-suc, take_at, drop_at}
+use Rattle.std.specs.Prelude.{ℕ, ◌+◌, ◌-◌, ◌≤◌, ◌≡◌, refl, List, [], ◌∷◌, ◌++◌, length, set, take, drop}
+use Rattle.std.proofs.Common.{sym, ap, ◌∙◌, zero-add, append_assoc, arith, length-append, length-take-le, take_at, drop_at}
+use Rattle.std.proofs.lemmas.List.{drop-drop}
 use Rattle.std.proofs.lemmas.List.Edits.{sets, sets-eq}
 use Rattle.std.proofs.Math.Seq.{length-sets}
 use Rattle.lists.specs.Stored.{sets_append}
@@ -46,14 +47,7 @@ module _ (lent g : List ℕ) (t : List Token) (e : List ℕ) (nine : length g �
       ∙ stored_behind lent x₄ ((starts_from + 8) ∷ []) l₄
       ∙ ap (sets lent 0) (λ i. (q i ++ starts 9 t) ++ (v i ∷ []))
 
--- ── A list stored number by number, and a part of a list ──────────────
--- i numbers stored, and one more
-pub one_stored : (l x : List ℕ) (at i : ℕ) → i < length x → set (sets l at (take i x)) (at + i) (get_or x i 0) ≡ sets l at (take (i + 1) x)
-one_stored l x at i h =
-    ap (λ (k : ℕ). set (sets l at (take i x)) (at + k) (get_or x i 0)) (sym (length-take-le i x (omega (arith, h))))
-    ∙ sym (sets_append l at (take i x) (get_or x i 0 ∷ []))
-    ∙ ap (sets l at) (sym (take-suc x i 0 h) ∙ ap (λ (k : ℕ). take k x) (sym (add-one i)))
-
+-- ── A part of a list ──────────────────────────────────────────────────
 -- the numbers from one place to another
 abbrev pub part : List ℕ → ℕ → ℕ → List ℕ
 part l i end = take (end - i) (drop i l)
@@ -67,3 +61,10 @@ part_stored lent l i end x e f h =
     ap (λ (n : ℕ). take n (drop i l)) k ∙ ap (λ (a : List ℕ). take (length x) (drop i a)) w
     ∙ ap (take (length x)) (drop_at (take i lent) (x ++ drop (i + length x) lent) i (length-take-le i lent (omega arith)))
     ∙ take_at x (drop (i + length x) lent) (length x) refl
+
+-- a part that is written anew
+pub written_part : (l x : List ℕ) (i : ℕ) {k : ℕ} → length x ≡ k → i + k ≤ length l → take i l ++ (x ++ drop k (drop i l)) ≡ sets l i x
+written_part l x i e m =
+    (λ j. take i l ++ (x ++ drop (sym e j) (drop i l)))
+    ∙ ap (λ (y : List ℕ). take i l ++ (x ++ y)) (drop-drop (length x) i l)
+    ∙ sym (sets-eq x l i (omega arith) ∙ append_assoc (take i l) x (drop (i + length x) l))

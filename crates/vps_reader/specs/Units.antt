@@ -11,7 +11,7 @@ use Rattle.std.proofs.Math.Seq.{take-length, take-append_seam}
 use Rattle.refusals.specs.Answer.Answer.{success, refusal}
 use Rattle.refusals.specs.Refusals.{answer_of}
 use Rattle.refusals.specs.declared.refusal.Refusal.{Refusal}
-use Rattle.refusals.specs.Number.{unit_too_short, not_a_vps, rbsp_too_long, work_too_short, output_too_short}
+use Rattle.refusals.specs.Number.{unit_too_short, not_a_vps, work_too_short, output_too_short}
 use Rattle.refusals.specs.Lent.{lent, output_after}
 use Rattle.stuffing.specs.Stuffing.{unstuff}
 use Rattle.stuffing.specs.Laws.{unstuff_length}

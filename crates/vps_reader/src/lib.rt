@@ -1,14 +1,13 @@
 // Reads a VPS unit into a lent record: a first pass measures, a second fills, by the same code.
 #![tactic(auto)]
 
-ghost use Rattle.std.specs.Prelude.{◌≡◌, List, ℕ, ◌+◌, ◌^◌, ◌≤◌, ◌<◌, ltb, length, get_or, set};
+ghost use Rattle.std.specs.Prelude.{◌≡◌, List, ◌∷◌, ℕ, ◌+◌, ◌^◌, ◌≤◌, ◌<◌, ltb, length, get_or, set};
 ghost use Rattle.std.proofs.lemmas.List.Edits.{sets};
 ghost use Rattle.stuffing.specs.Stuffing.{unstuff};
 ghost use Rattle.refusals.specs.Refusals.{answer_of};
 ghost use Rattle.bits.specs.Reading.{trailing_at};
 ghost use Rattle.vps_definition.specs.Syntax.{numbers};
-ghost use Rattle.vps_definition.specs.Reading.{extension_bits, read_limited, most_rbsp_bytes};
-ghost use Rattle.reading.specs.Fits.{limit};
+ghost use Rattle.vps_definition.specs.Reading.{bits_at, extension_bits, read_limited, most_rbsp_bytes};
 ghost use Rattle.read_vps.specs.Table.{Table as TableIs};
 ghost use Rattle.vps_reader.specs.Parse.{parse_payload, parse_unit};
 ghost use Rattle.vps_reader.specs.Measures.{Kept, Measures, extension_flag, record_in};
@@ -44,7 +43,7 @@ fn extension_bits(bytes: &[u8], flag: u32, at: usize) -> usize
 fn read_end(bytes: &[u8], at: usize) -> Result<usize, Refusal>
     ensures { at < 2 ^ 63 → answer_of result ≡ trailing_at bytes.now at }
 {
-    let mut reader = BitReader::at(bytes, at);
+    let mut reader = BitReader { bytes, bit_pos: at };
     reader.read_rbsp_trailing_bits()?;
     Ok(reader.bit_pos)
 }
@@ -62,47 +61,46 @@ fn measure(bytes: &[u8], small: &mut [u32]) -> Result<Measured, Refusal>
     Ok(Measured { table, count, bits })
 }
 
-// Stores numbers from a place on.
-fn store_all(rec: &mut [u32], at: usize, numbers: &[u32])
-    requires { at + length numbers.now ≤ length rec.old }
-    ensures { rec.new ≡ sets rec.old at numbers.now }
+// A count or a start, as a number of the record.
+fn number(v: usize) -> u32
+    ensures { v < 2 ^ 32 → result ≡ v }
 {
-    for (i, number) in numbers.iter().enumerate() {
-        rec[at + i] = *number;
+    u32::try_from(v).unwrap_or(u32::MAX)
+}
+
+// Stores the trailer: the starts, and the total length.
+fn store_trailer(trailer: &mut [u32], starts: [usize; Record::STARTS], total: usize)
+    requires { length trailer.old ≡ 8 }
+    ensures { total < 2 ^ 32 → ((k : ℕ) → get_or starts k 0 < 2 ^ 32) → trailer.new ≡ set (sets trailer.old 0 starts) 7 total }
+{
+    for (k, start) in starts.iter().enumerate() {
+        trailer[k] = number(*start);
+    }
+    trailer[Record::STARTS] = number(total);
+}
+
+// Stores the extension: how many bits there are, and the bits, which stand from a place on.
+// As it is (6): the place is one among the bits, so no rest of the bytes starts there.
+fn store_extension(extension: &mut [u32], bytes: &[u8], at: usize)
+    ensures { (n : ℕ) → length extension.old ≡ n + 1 → at + n < 2 ^ 32 → extension.new ≡ n ∷ bits_at bytes.now at n }
+{
+    if let Some((count, bits)) = extension.split_first_mut() {
+        *count = number(bits.len());
+        read_extension::store_bits(bytes, at, bits);
     }
 }
 
-// Stores a count or a start.
-fn store_number(rec: &mut [u32], at: usize, v: usize)
-    requires { at < length rec.old }
-    ensures { v < 2 ^ 32 → rec.new ≡ set rec.old at v }
+// Stores the table's numbers: copied where the first pass has kept them all, else read again.
+fn store_table(bytes: &[u8], small: &[u32], rec: &mut [u32], table: Table)
+    requires { table.n ≤ length rec.old }
+    ensures { (T : TableIs bytes.now table) (lent : List ℕ) → small.now ≡ sets lent 9 (numbers T.kept) → rec.new ≡ sets rec.old 9 (numbers T.kept) }
 {
-    if v < 0x1_0000_0000 {
-        rec[at] = v as u32;
+    match small.get(Record::GENERAL..table.n) {
+        Some(kept) => rec[Record::GENERAL..table.n].copy_from_slice(kept),
+        None => {
+            let _ = read_vps::read_vps(bytes, rec);
+        }
     }
-}
-
-// Stores the trailer from a number on: the starts, and the total length.
-fn store_trailer(rec: &mut [u32], n: usize, starts: [usize; Record::STARTS])
-    requires { (n + 8 ≤ length rec.old) × (n < limit) }
-    ensures { n + 8 < 2 ^ 32 → ((k : ℕ) → get_or starts k 0 < 2 ^ 32) → rec.new ≡ set (sets rec.old n starts) (n + 7) (n + 8) }
-{
-    for k in 0..Record::STARTS {
-        store_number(rec, n + k, starts[k]);
-    }
-    store_number(rec, n + Record::STARTS, n + Record::TRAILER);
-}
-
-// The table's numbers up to number n: copied where the first pass has kept them all, else read again.
-fn store_table(bytes: &[u8], small: &[u32], rec: &mut [u32], n: usize)
-    requires { n ≤ length rec.old }
-    ensures { (w : Table) (T : TableIs bytes.now w) (lent : List ℕ) → n ≡ w.n → small.now ≡ sets lent 9 (numbers T.kept) → rec.new ≡ sets rec.old 9 (numbers T.kept) }
-{
-    if Record::GENERAL <= n && n <= small.len() {
-        store_all(rec, Record::GENERAL, &small[Record::GENERAL..n]);
-        return;
-    }
-    let _ = read_vps::read_vps(bytes, rec);
 }
 
 // The second pass: the whole record is stored.
@@ -111,11 +109,12 @@ fn fill(bytes: &[u8], small: &[u32], rec: &mut [u32], m: Measured)
     ensures { (lent : List ℕ) (K : Kept bytes.now lent small.now m.table m.count m.bits) → rec.new ≡ sets rec.old 0 (record_in K.found) }
 {
     let table = m.table;
-    store_all(rec, 0, &table.whole.general);
-    store_table(bytes, small, rec, table.n);
-    store_number(rec, table.n, m.count);
-    read_extension::store_bits(bytes, rec, table.n + 1, table.at, m.count);
-    store_trailer(rec, table.n + 1 + m.count, table.whole.starts);
+    rec[..Record::GENERAL].copy_from_slice(&table.whole.general);
+    store_table(bytes, small, rec, table);
+    let trailer = table.n + 1 + m.count;
+    let end = trailer + Record::TRAILER;
+    store_extension(&mut rec[table.n..trailer], bytes, table.at);
+    store_trailer(&mut rec[trailer..end], table.whole.starts, end);
 }
 
 // The record where it fits.

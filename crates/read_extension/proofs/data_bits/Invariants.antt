@@ -4,6 +4,3 @@ use Rattle.read_extension.proofs.data_bits.Given as goal
 
 abbrev pub invariant-loop-i : goal.invariant-loop-i
 invariant-loop-i l = ones_from l.bytes l.i ≡ 0
-
-abbrev pub decreases-loop-i : goal.decreases-loop-i
-decreases-loop-i l = l.i

@@ -1,8 +1,7 @@
 -- Each turn stores one bit more.
-use Rattle.std.proofs.Common.{ℕ, ◌≡◌, ◌+◌, refl, ap, ◌∙◌, arith, set}
-use Rattle.std.proofs.lemmas.List.Edits.{sets}
+use Rattle.std.proofs.Common.{refl, ◌∙◌, arith, set}
 use Rattle.vps_definition.specs.Reading.{bits_at}
-use Rattle.read_extension.specs.Laws.{stored_one_more}
+use Rattle.read_extension.specs.Laws.{stored_one_more, stored_all}
 use Rattle.read_extension.proofs.store_bits.Goals as goal
 
 pub loop-j-init : goal.loop-j-init
@@ -10,5 +9,7 @@ unfolding bits_at
 loop-j-init c = refl
 
 pub loop-j-preserved : goal.loop-j-preserved
-loop-j-preserved c =
-    c.store.ensures ∙ (λ k. set (c.loop-j.invariant k) (c.args.n + c.loop-j.j) (c.bit_at.ensures k)) ∙ stored_one_more c.args.rec.now c.args.n c.args.bytes.now c.args.at c.loop-j.j
+loop-j-preserved c = (λ k. set (c.loop-j.invariant k) c.loop-j.j (c.bit_at.ensures k)) ∙ stored_one_more c.args.numbers.now c.args.bytes.now c.args.at c.loop-j.j
+
+pub returns : goal.returns
+returns c l = c.loop-j.invariant ∙ stored_all _ _ _ (omega (arith, c.loop-j-test.false))

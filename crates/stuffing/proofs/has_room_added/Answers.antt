@@ -2,8 +2,8 @@
 use Rattle.stuffing.proofs.Steps.{no_room_added, room_added}
 use Rattle.stuffing.proofs.has_room_added.Goals as goal
 
-pub returns-then-room-rbsp : goal.returns-then-room-rbsp
-returns-then-room-rbsp c = no_room_added _ c.if-room-rbsp.true
+pub returns-then-out-rbsp : goal.returns-then-out-rbsp
+returns-then-out-rbsp c = no_room_added _ c.if-out-rbsp.true
 
-pub returns-then-rbsp-room : goal.returns-then-rbsp-room
-returns-then-rbsp-room c = room_added _ c.if-room-rbsp.false c.if-rbsp-room.true
+pub returns-then-rbsp-out : goal.returns-then-rbsp-out
+returns-then-rbsp-out c = room_added _ c.if-out-rbsp.false c.if-rbsp-out.true

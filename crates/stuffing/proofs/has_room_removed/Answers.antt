@@ -3,5 +3,5 @@ use Rattle.std.proofs.Common.{◌∙◌, le-leb}
 use Rattle.stuffing.proofs.Steps.{room_removed}
 use Rattle.stuffing.proofs.has_room_removed.Goals as goal
 
-pub returns-then-ebsp-room : goal.returns-then-ebsp-room
-returns-then-ebsp-room c = le-leb _ _ c.if-ebsp-room.true ∙ room_removed _ c.if-ebsp-room.true
+pub returns-then-ebsp-out : goal.returns-then-ebsp-out
+returns-then-ebsp-out c = le-leb _ _ c.if-ebsp-out.true ∙ room_removed _ c.if-ebsp-out.true

@@ -1,7 +1,6 @@
 -- The table, the extension and the trailing bits, each refused by its number.
 use Rattle.std.proofs.Common.{ap, sym, ◌∙◌, arith, rules}
-use Rattle.refusals.specs.Refusals.{answer_of}
-use Rattle.vps_definition.specs.Reading.{extension_bits, refuses}
+use Rattle.vps_definition.specs.Reading.{extension_bits}
 use Rattle.vps_reader.specs.Measures.{table_refused, limited_short, limited_long, end_near, ended_refused}
 use Rattle.vps_reader.proofs.measure.Goals as goal
 

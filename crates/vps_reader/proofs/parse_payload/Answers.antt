@@ -2,7 +2,6 @@
 use mathlib.Core.Path.{sym, ◌∙◌}
 use borrow.Author.Tests.{ltb-true, ltb-false}
 use Rattle.vps_reader.specs.Units.{gives_long, gives_narrow, gives_rbsp, removed_refused, removed_room, removed_begins, removed_long, removed_size}
-use borrow.Author.Rules.{rules}
 use Rattle.vps_reader.proofs.parse_payload.Goals as goal
 
 pub returns-then-is_too_long : goal.returns-then-is_too_long

@@ -1,6 +1,5 @@
 -- `parse_vps` meets its contract: two checks, and then the payload.
 use Rattle.vps_reader.specs.Units.{gives_short, gives_other, gives_payload}
-use borrow.Author.Rules.{rules}
 use Rattle.vps_reader.proofs.parse_vps.Goals as goal
 
 pub returns-then-unit-lt2 : goal.returns-then-unit-lt2

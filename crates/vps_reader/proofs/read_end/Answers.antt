@@ -1,19 +1,18 @@
 -- `read_end` meets its contract: the place is below the reader's limit.
-use Rattle.std.proofs.Common.{◌≡◌, ap, refl, ◌∙◌, lt-ltb, ◌^◌, ◌<◌, ℕ, List, Bor, Err}
+use Rattle.std.proofs.Common.{◌≡◌, ap, refl, ◌∙◌, lt-ltb, ◌^◌, ◌<◌, ℕ, List, Err}
 use Rattle.std.proofs.lemmas.Result.{err_from_is_err_and}
 use Rattle.refusals.specs.Refusals.{answer_of}
 use Rattle.bits.specs.Reading.{trailing_at, read_trailing}
-use Rattle.bit_reader.specs.declared.BitReader.{BitReader}
 use Rattle.vps_reader.proofs.read_end.Goals as goal
 
-there : {b : BitReader} {s : Bor (List ℕ)} (at : ℕ) → (b.bytes ≡ s) × (b.bit_pos ≡ at) → at < 2 ^ 63 → read_trailing b.bytes.now b.bit_pos ≡ trailing_at s.now at
+there : (s : List ℕ) (at : ℕ) → at < 2 ^ 63 → read_trailing s at ≡ trailing_at s at
 unfolding read_trailing
-there at (e, f) l = (λ j. read_trailing (e j).now (f j)) ∙ rw (lt-ltb at (2 ^ 63) l) refl
+there s at l = rw (lt-ltb at (2 ^ 63) l) refl
 
 pub returns-in_err-read_rbsp_trailing_bits : goal.returns-in_err-read_rbsp_trailing_bits
 returns-in_err-read_rbsp_trailing_bits c l =
     let p = err_from_is_err_and c.from_residual.result c.from_residual.ensures.1 in
-    ap answer_of (p.1 ∙ ap Err p.2) ∙ c.in_err-read_rbsp_trailing_bits.ensures.said ∙ there c.args.at c.at-reader.ensures l
+    ap answer_of (p.1 ∙ ap Err p.2) ∙ c.in_err-read_rbsp_trailing_bits.ensures.said ∙ there c.args.bytes.now c.args.at l
 
 pub returns : goal.returns
-returns c l = c.in_ok-read_rbsp_trailing_bits.ensures.said ∙ there c.args.at c.at-reader.ensures l
+returns c l = c.in_ok-read_rbsp_trailing_bits.ensures.said ∙ there c.args.bytes.now c.args.at l
