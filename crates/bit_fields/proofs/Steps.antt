@@ -1,16 +1,16 @@
 -- What the fields rest on, over plain numbers.
-use Prim.Native.Nat.{ℕ, ◌+◌, ◌*◌, ◌-◌, ◌/◌, ◌%◌, ◌^◌, ◌≤◌, ◌<◌}
+use Prim.Native.Nat.{ℕ, zero, suc, ◌+◌, ◌*◌, ◌-◌, ◌/◌, ◌%◌, ◌^◌, ◌≤◌, ◌<◌}
 use mathlib.Core.Path.{◌≡◌, refl, sym, ◌∙◌}
 use mathlib.Core.List.{List}
 use mathlib.Core.Bool.{Bool, true, false, cond}
 use native.Mathlib.Nat.{one-mul}
 use native.Mathlib.Omega.{arith}
 use lib.Dec.{ltb, lit<, lit≤}
-use lib.ListN.{get_or, drop}
+use lib.ListN.{length, get_or, drop}
 use lib.Pow.{shl_exact, pow_mono}
 use Rattle.bits.specs.Bits.{field_at, field_width}
 use Rattle.bits.specs.RestLaws.{rest_field}
-use Rattle.bits.specs.FieldLaws.{field_lt, field_split, field_within, field_byte}
+use Rattle.bits.specs.FieldLaws.{field_lt, bit_past_end, field_split, field_within, field_byte}
 
 -- the power that a shift of 1 gives
 pub one_shl : (k w : ℕ) → k < w → 1 * 2 ^ k % 2 ^ w ≡ 2 ^ k
@@ -26,6 +26,12 @@ byte_more s i e f h =
 -- up to seven bytes leave room for one more
 pub room_for_byte : (s : List ℕ) (i : ℕ) → i < 8 → field_at s 0 (8 * i) < 2 ^ 56
 room_for_byte s i h = let p : 2 ^ (8 * i) ≤ 2 ^ 56 = pow_mono {i = 8 * i} {j = 56} (omega arith) in omega (arith, field_lt s 0 (8 * i))
+
+-- past the end a field is 0
+pub field_past_end : (s : List ℕ) (at w : ℕ) → 8 * length s ≤ at → field_at s at w ≡ 0
+unfolding field_at
+field_past_end s at zero h = refl
+field_past_end s at (suc w) h = omega (arith, field_past_end s at w h, bit_past_end s (at + w) (omega arith))
 
 -- the first bytes, one by one
 abbrev pub eight : List ℕ → ℕ

@@ -55,7 +55,7 @@ pub fn window_for(bytes: &[u8], at: usize) -> (u64, usize)
     ensures skipped { result.1 ≡ at - 8 * window_start (length bytes.now) (at / 8) }
 {
     let start = window_start(bytes.len(), at / 8);
-    (window(lists::behind(bytes, start)), at - 8 * start)
+    (window(&bytes[start..]), at - 8 * start)
 }
 
 // The field of a width behind so many bits of a window.
@@ -92,8 +92,10 @@ pub fn field_at(bytes: &[u8], at: usize, width: u32) -> u32
     if width == 1 {
         return bit_at(bytes, at);
     }
-    let rest = lists::behind(bytes, at / 8);
     if width <= 8 {
+        let Some(rest) = bytes.get(at / 8..) else {
+            return 0;
+        };
         return short_field(rest, (at % 8) as u32, width);
     }
     let w = bits::field_width(width);
@@ -101,5 +103,6 @@ pub fn field_at(bytes: &[u8], at: usize, width: u32) -> u32
     if skipped <= (64 - w) as usize {
         return field_in(near, skipped as u32, w);
     }
+    let rest = lists::behind(bytes, at / 8);
     field_in(first_bytes(rest, 8), (at % 8) as u32, w)
 }
