@@ -1,16 +1,17 @@
--- What a sink and the lent output hold after some bits.
+-- What a sink and its lent output hold after some bits.
 use Rattle.std.specs.Prelude.{ℕ, ◌*◌, ◌/◌, ◌%◌, ◌^◌, ◌<◌, ◌≡◌, List, length, drop}
 use Rattle.bits.specs.Bits.{bits_of, pack}
 use Rattle.bits.specs.ByteLaws.{AllBits}
-use Rattle.bit_sink.specs.declared.Sink.{Sink}
+use Rattle.bit_sink.specs.declared.SoFar.{SoFar}
 use Rattle.bit_sink.specs.SoFar.{Stuffed}
 
 -- first places and numbers of bits below this are served
 abbrev pub limit : ℕ
-limit = 2 ^ 40
+limit = 2 ^ 41
 
--- the bits b were pushed into s, which began at place `start` of the output: it was `lent` and is now `out`
-pub record Holds (start : ℕ) (b : List ℕ) (s : Sink) (lent out : List ℕ) : Type 0 where
+-- the bits b were pushed, from place `start` of the output on: it was `lent` and is now `out`
+pub record Holds (start : ℕ) (b : List ℕ) (s : SoFar) (lent out : List ℕ) : Type 0 where
+  pub inside : start < limit
   pub binary : AllBits b
   pub counted : s.bits ≡ length b
   -- the bits behind the last whole byte are those of a number with no other bits

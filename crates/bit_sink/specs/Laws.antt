@@ -1,9 +1,9 @@
--- What a sink that holds some bits says of them.
+-- What is known where some bits were pushed.
 use Rattle.std.specs.Prelude.{ℕ, ◌+◌, ◌*◌, ◌/◌, ◌%◌, ◌≤◌, ◌≡◌, List, ◌++◌, length, take}
 use Rattle.std.proofs.Common.{sym, ap, ◌∙◌, append-nil, arith, length-append, take-append-drop, length-take-le}
 use Rattle.bits.specs.Bits.{bits_of, pack}
 use Rattle.bits.specs.ByteLaws.{pack_length}
-use Rattle.bit_sink.specs.declared.Sink.{Sink}
+use Rattle.bit_sink.specs.declared.SoFar.{SoFar}
 use Rattle.bit_sink.specs.SoFar.{so_far_length}
 use Rattle.bit_sink.specs.Packing.{pack_append, pack_few}
 use Rattle.bit_sink.specs.Holds.{Holds}
@@ -15,7 +15,7 @@ pub record Parts (b : List ℕ) (p : ℕ) : Type 0 where
   pub split : b ≡ whole ++ bits_of (length b % 8) p
   pub packed : pack b ≡ pack whole
 
-module _ {start : ℕ} {b : List ℕ} {s : Sink} {lent out : List ℕ} (h : Holds start b s lent out) where
+module _ {start : ℕ} {b : List ℕ} {s : SoFar} {lent out : List ℕ} (h : Holds start b s lent out) where
   pub parts : Parts b s.pending
   parts =
       let n : ℕ = 8 * (length b / 8) in

@@ -1,4 +1,5 @@
 pub mod SoFar
 pub mod Packing
 pub mod Holds
+pub mod Puts
 pub mod Laws

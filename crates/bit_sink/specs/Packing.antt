@@ -48,6 +48,19 @@ pack_few (suc (suc (suc (suc (suc (suc zero)))))) v h = refl
 pack_few (suc (suc (suc (suc (suc (suc (suc zero))))))) v h = refl
 pack_few (suc (suc (suc (suc (suc (suc (suc (suc w)))))))) v h = absurd (omega arith)
 
+-- the bytes are no more than the bits
+pub pack_short : (x : List ℕ) → length (pack x) ≤ length x
+unfolding pack
+pack_short [] = omega arith
+pack_short (x₀ ∷ x₁ ∷ x₂ ∷ x₃ ∷ x₄ ∷ x₅ ∷ x₆ ∷ x₇ ∷ r) = omega (arith, pack_short r)
+pack_short (x₀ ∷ []) = omega arith
+pack_short (x₀ ∷ x₁ ∷ []) = omega arith
+pack_short (x₀ ∷ x₁ ∷ x₂ ∷ []) = omega arith
+pack_short (x₀ ∷ x₁ ∷ x₂ ∷ x₃ ∷ []) = omega arith
+pack_short (x₀ ∷ x₁ ∷ x₂ ∷ x₃ ∷ x₄ ∷ []) = omega arith
+pack_short (x₀ ∷ x₁ ∷ x₂ ∷ x₃ ∷ x₄ ∷ x₅ ∷ []) = omega arith
+pack_short (x₀ ∷ x₁ ∷ x₂ ∷ x₃ ∷ x₄ ∷ x₅ ∷ x₆ ∷ []) = omega arith
+
 -- the first eight of a number's bits are a byte
 pack_byte : (v : ℕ) (y : List ℕ) → pack (bits_of 8 v ++ y) ≡ v % 256 ∷ pack y
 unfolding pack bits_of

@@ -1,9 +1,9 @@
 -- Stuffing of bytes behind which more may follow: no 03 stands at the end yet.
-use Rattle.std.specs.Prelude.{ℕ, ◌+◌, ◌/◌, ◌≤◌, List, [], ◌∷◌, ◌++◌, ◌≡◌, refl, length}
+use Rattle.std.specs.Prelude.{ℕ, ◌+◌, ◌*◌, ◌/◌, ◌≤◌, List, [], ◌∷◌, ◌++◌, ◌≡◌, refl, Bool, true, false, cond, length}
 use Rattle.std.proofs.Common.{append_assoc, append-nil, sym, ap, ◌∙◌, add-zero, arith, length-append}
 use Rattle.std.proofs.lemmas.List.Edits.{sets}
 use Rattle.lists.specs.Stored.{sets_append}
-use Rattle.stuffing.specs.Stuffing.{added, zeros_added, stuff_behind, stuff}
+use Rattle.stuffing.specs.Stuffing.{guarded, added, zeros_added, stuff_behind, stuff}
 use Rattle.stuffing.specs.Laws.{stuff_length}
 
 -- bytes behind z zeros, without the end
@@ -43,6 +43,18 @@ stuff_ends x = ap (stuff_behind 0) (sym (append-nil x)) ∙ stuff_append 0 x []
 
 pub so_far_length : (x : List ℕ) → length (stuffing_so_far 0 x) ≤ length x + length x / 2
 so_far_length x = omega (arith, stuff_length x, ap length (stuff_ends x), length-append (stuffing_so_far 0 x) (stuff_behind (zeros_so_far 0 x) []))
+
+-- each byte stands there with at most one 03
+added_short : (z b : ℕ) → length (added z b) ≤ 2
+added_short z b = go (guarded z b) where
+  go : (t : Bool) → length {A = ℕ} (cond t (3 ∷ b ∷ []) (b ∷ [])) ≤ 2
+  go true = omega arith
+  go false = omega arith
+
+pub so_far_short : (z : ℕ) (x : List ℕ) → length (stuffing_so_far z x) ≤ 2 * length x
+unfolding stuffing_so_far
+so_far_short z [] = omega arith
+so_far_short z (b ∷ x) = omega (arith, added_short z b, so_far_short (zeros_added z b) x, length-append (added z b) (stuffing_so_far (zeros_added z b) x))
 
 -- ── Stored in an output ───────────────────────────────────────────────
 -- the bytes x were stored where they fit, behind z zeros and from place n on; now z' zeros and place n' are reached

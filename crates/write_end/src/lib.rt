@@ -10,6 +10,7 @@ ghost use Rattle.write_end.specs.Parts.{Taken, trailer_of, count_in};
 ghost use Rattle.write_end.specs.Numbers.{Has};
 ghost use Rattle.write_end.specs.Ends.{may_extend, Looked, extension_table, Finishes};
 
+use bit_sink::Sink;
 use record_parts::Record;
 use refusals::Refusal;
 use table_steps::Steps;
@@ -83,8 +84,12 @@ pub fn write_end(
         return Err(Refusal::NotWellFormed);
     }
     extension(writing)?;
-    if Record::MOST_RBSP_BITS <= writing.sink.bits {
+    if Record::MOST_RBSP_BITS <= writing.so_far.bits {
         return Err(Refusal::NotWellFormed);
     }
-    Ok(bit_sink::finish(writing.out, writing.sink))
+    let mut sink = Sink {
+        out: &mut *writing.out,
+        so_far: writing.so_far,
+    };
+    Ok(sink.finish())
 }

@@ -2,7 +2,7 @@
 use Rattle.std.specs.Prelude.{ℕ, ◌+◌, ◌*◌, ◌≤◌, ◌<◌, ◌≡◌, List, ◌++◌, length, drop, Result, Ok, Err}
 use Rattle.refusals.specs.declared.refusal.Refusal.{Refusal}
 use Rattle.refusals.specs.declared.refusal.Refusal.TheVariants.{NotWellFormed}
-use Rattle.bit_sink.specs.Holds.{limit, Holds}
+use Rattle.bit_sink.specs.Holds.{Holds}
 use Rattle.vps_definition.specs.Syntax.{Syntax, Token, numbers, Written, emit}
 use Rattle.vps_definition.specs.Syntax.Written.{wrote, bad}
 use Rattle.vps_definition.specs.Reading.{most_rbsp_bytes}
@@ -14,9 +14,8 @@ most_bits = 8 * most_rbsp_bytes
 
 -- a writing that goes on: the bits d are pushed, from byte `start` of the output on, which was lent
 pub record Ready (start : ℕ) (d : List ℕ) (s : Writing) (lent : List ℕ) : Type 0 where
-  pub inside : start < limit
   pub short : length d ≤ most_bits
-  pub holds : Holds start d s.sink lent s.out.now
+  pub holds : Holds start d s.so_far lent s.out.now
 
 -- a table that is written behind the bits d: its result, its tokens and bits, and the state behind them
 pub record Wrote {A : Type 0} (m : Syntax A) (rec : List ℕ) (start : ℕ) (d lent : List ℕ) (s : Writing) (a : A) (s' : Writing) : Type 0 where

@@ -180,7 +180,7 @@ module _ {n : ℕ} {s : Writing} where
     module _ {v : ℕ} (N : Gathers x (Ok v)) (h : length x ≤ 32) {s₂ : Writing} where
       -- it is written
       pub grouped_more : Pushes (ltb v (2 ^ field_width (length x))) (bits_of (field_width (length x)) v) s₁ (Ok tt) s₂
-          → Grouped n s rest' (record { rec = s₂.rec; out = s₂.out; c = s₂.c + length x; sink = s₂.sink })
+          → Grouped n s rest' (record { rec = s₂.rec; out = s₂.out; c = s₂.c + length x; so_far = s₂.so_far })
       grouped_more P = record {
         tail = G.tail;
         there = (λ k. drop (P.next k + length x) (P.stays.rec k).now) ∙ sym (drop_behind s₁.c (length x) s₁.rec.now) ∙ ap (drop (length x)) next ∙ drop-append_seam x (rest' ++ G.tail);

@@ -32,7 +32,7 @@ pub record Pushed (fits : Bool) (b : List ℕ) (s s' : Writing) : Type 0 where
 -- unless the value doesn't fit, or there get to be too many
 abbrev pub SaysPushed : Bool → List ℕ → Writing → Result (Unit {0}) Refusal → Writing → Type 0
 SaysPushed fits b s (Ok u) s' = Pushed fits b s s'
-SaysPushed fits b s (Err e) s' = (e ≡ NotWellFormed) × (fits ≡ true → most_bits < s.sink.bits + length b)
+SaysPushed fits b s (Err e) s' = (e ≡ NotWellFormed) × (fits ≡ true → most_bits < s.so_far.bits + length b)
 
 pub record Pushes (fits : Bool) (b : List ℕ) (s : Writing) (r : Result (Unit {0}) Refusal) (s' : Writing) : Type 0 where
   pub stays : Stays s s'

@@ -9,7 +9,9 @@ use Rattle.refusals.specs.declared.refusal.Refusal.TheVariants.{NotWellFormed}
 use Rattle.bits.specs.Bits.{bits_of, to_boundary}
 use Rattle.bits.specs.Code.{code_of}
 use Rattle.bit_sink.specs.declared.Sink.{Sink}
+use Rattle.bit_sink.specs.declared.SoFar.{SoFar}
 use Rattle.bit_sink.specs.Holds.{limit, Holds}
+use Rattle.bit_sink.specs.Puts.{SameOutput, Puts}
 use Rattle.vps_definition.specs.Syntax.{Syntax, Token, numbers, Written, putting, emit}
 use Rattle.vps_definition.specs.Syntax.Syntax.{field, code, late, done}
 use Rattle.vps_definition.specs.Syntax.Token.{number}
@@ -37,25 +39,28 @@ none_above v w = go (ltb v (2 ^ w)) refl
         above = (le-div_iff_mul-le {k = 2 ^ w} {x = 1} {y = v} (pow_pos w)).1 (subst (λ (n : ℕ). n ≤ v) (sym (one-mul (2 ^ w))) (ltb-false v (2 ^ w) e))
 
 -- no bits are pushed
-pub pushes_none : {fits fits' : Bool} {b : List ℕ} {s : Writing} {n : ℕ} → fits ≡ fits' → (fits' ≡ true → n ≡ length b) → (fits ≡ true → most_bits < s.sink.bits + n)
+pub pushes_none : {fits fits' : Bool} {b : List ℕ} {s : Writing} {n : ℕ} → fits ≡ fits' → (fits' ≡ true → n ≡ length b) → (fits ≡ true → most_bits < s.so_far.bits + n)
     → Pushes fits' b s (Err NotWellFormed) s
 pushes_none f l h = record { stays = stays_all; next = refl; says = (refl, λ g. omega (arith, h (f ∙ g), l g)) }
 
--- bits are pushed, as the sink does it
-pub pushes_bits : {fits fits' : Bool} {b : List ℕ} {s s' : Writing} {n : ℕ} → fits ≡ fits' → (fits' ≡ true → n ≡ length b) → (fits ≡ true) × (s.sink.bits + n ≤ most_bits) → Stays s s' → s'.c ≡ s.c
-    → (fits' ≡ true → (start : ℕ) (d lent : List ℕ) → Holds start d s.sink lent s.out.now → start < limit → length d < limit → Holds start (d ++ b) s'.sink lent s'.out.now) → Pushes fits' b s (Ok tt) s'
-pushes_bits {b = b} f l room K e H =
+-- bits are pushed, by a sink that the output is lent to
+pub pushes_bits : {fits fits' : Bool} {b : List ℕ} {s : Writing} {k k' : Sink} {n : ℕ} → fits ≡ fits' → (fits' ≡ true → n ≡ length b) → (fits ≡ true) × (s.so_far.bits + n ≤ most_bits)
+    → k.so_far ≡ s.so_far → k.out.now ≡ s.out.now → SameOutput k k' → (fits' ≡ true → Puts b k k') → {out : List ℕ} → out ≡ k'.out.now
+    → Pushes fits' b s (Ok tt) (record { rec = s.rec; out = record s.out { now = out }; c = s.c; so_far = k'.so_far })
+pushes_bits {b = b} {s = s} {k = k} {k' = k'} f l room ep eo O P {out} e =
     let g = sym f ∙ room.0 in
     record {
-      stays = K;
-      next = e;
+      stays = record { rec = refl; same = refl; long = ap length e ∙ O.long ∙ ap length eo };
+      next = refl;
       says = record {
         fitting = g;
-        ready = λ start d lent R. record {
-          inside = R.inside;
-          short = omega (arith, room.1, l g, R.holds.counted, length-append d b);
-          holds = H g start d lent R.holds R.inside (omega (arith, R.short));
-        };
+        ready = λ start d lent R.
+            let h : Holds start d k.so_far lent k.out.now = subst (λ (p : SoFar). Holds start d p lent k.out.now) (sym ep) (subst (λ (o : List ℕ). Holds start d s.so_far lent o) (sym eo) R.holds) in
+            let r : length d + length b < limit = omega (arith, room.1, l g, R.holds.counted) in
+            record {
+              short = omega (arith, room.1, l g, R.holds.counted, length-append d b);
+              holds = subst (λ (o : List ℕ). Holds start (d ++ b) k'.so_far lent o) (sym e) ((P g).holds start d lent h r);
+            };
       };
     }
 
@@ -84,14 +89,14 @@ pub record Passed (k : ℕ) (s s' : Writing) : Type 0 where
 pub passed_none : {s : Writing} → Passed 0 s s
 passed_none {s} = record { by = sym (add-zero s.c); stays = stays_all; ready = λ start d lent R. R }
 
-pub passed : (k : ℕ) {s : Writing} → Passed k s (record { rec = s.rec; out = s.out; c = s.c + k; sink = s.sink })
-passed k = record { by = refl; stays = record { rec = refl; same = refl; long = refl }; ready = λ start d lent R. record { inside = R.inside; short = R.short; holds = R.holds } }
+pub passed : (k : ℕ) {s : Writing} → Passed k s (record { rec = s.rec; out = s.out; c = s.c + k; so_far = s.so_far })
+passed k = record { by = refl; stays = record { rec = refl; same = refl; long = refl }; ready = λ start d lent R. record { short = R.short; holds = R.holds } }
 
-pub passed_one : {s : Writing} → Passed 1 s (record { rec = s.rec; out = s.out; c = s.c + 1; sink = s.sink })
+pub passed_one : {s : Writing} → Passed 1 s (record { rec = s.rec; out = s.out; c = s.c + 1; so_far = s.so_far })
 passed_one = passed 1
 
 module _ {A : Type 0} {m : Syntax A} {s s₁ : Writing} {fits : Bool} {b : List ℕ} (a : A) (t : List Token)
-    (E : (at : ℕ) → at ≡ s.sink.bits → emit m s.rec.now (drop s.c s.rec.now) at ≡ guarded fits (wrote a t (drop (s.c + length (numbers t)) s.rec.now) b)) where
+    (E : (at : ℕ) → at ≡ s.so_far.bits → emit m s.rec.now (drop s.c s.rec.now) at ≡ guarded fits (wrote a t (drop (s.c + length (numbers t)) s.rec.now) b)) where
   -- the word is written
   pub emits_pushed : {s' : Writing} → Pushes fits b s (Ok tt) s₁ → Passed (length (numbers t)) s₁ s' → Emits m s (Ok a) s'
   emits_pushed {s'} P Q =
@@ -115,7 +120,7 @@ module _ {A : Type 0} {m : Syntax A} {s s₁ : Writing} {fits : Bool} {b : List 
     says = (P.says.0, λ start d lent R. subst (Fails (length d)) (sym (E (length d) (sym R.holds.counted))) (fail fits refl (length d) R.holds.counted P.says.1));
   }
     where
-      fail : (f : Bool) → fits ≡ f → (n : ℕ) → s.sink.bits ≡ n → (fits ≡ true → most_bits < s.sink.bits + length b) → Fails n (guarded f (wrote a t (drop (s.c + length (numbers t)) s.rec.now) b))
+      fail : (f : Bool) → fits ≡ f → (n : ℕ) → s.so_far.bits ≡ n → (fits ≡ true → most_bits < s.so_far.bits + length b) → Fails n (guarded f (wrote a t (drop (s.c + length (numbers t)) s.rec.now) b))
       fail true f n i k = omega (arith, k f, i)
       fail false f n i k = tt
 
@@ -183,11 +188,6 @@ pub aligned_emits : (n : ℕ) (r x : List ℕ) (here at : ℕ) → at ≡ here �
 unfolding emit putting aligned nothing
 aligned_emits n r x here at e = ap (wrote tt [] x) (append-nil (replicate (to_boundary at) 0) ∙ ap (λ (k : ℕ). replicate (to_boundary k) 0) e)
 
-pub pushed_zeros : {s s' : Sink} {out out' : List ℕ}
-    → ((start : ℕ) (d lent : List ℕ) → Holds start d s lent out → start < limit → length d < limit → Holds start (d ++ replicate (to_boundary (length d)) 0) s' lent out')
-    → (start : ℕ) (d lent : List ℕ) → Holds start d s lent out → start < limit → length d < limit → Holds start (d ++ replicate (to_boundary s.bits) 0) s' lent out'
-pushed_zeros {s' = s'} {out' = out'} H start d lent h i l = subst (λ (k : ℕ). Holds start (d ++ replicate (to_boundary k) 0) s' lent out') (sym h.counted) (H start d lent h i l)
-
 -- ── The steps ─────────────────────────────────────────────────────────
 -- no number is left, or it is lower than what is added to it
 none_left : {A : Type 0} (s : Writing) (m : Syntax A) (plus : ℕ) → ((at : ℕ) → emit m s.rec.now [] at ≡ bad)
@@ -230,14 +230,14 @@ module _ {s : Writing} where
   inferred_none N v = emits_bad N.says (none_left s (inferred v) 0 (λ at. refl) (λ l k. absurd (omega (arith, k))) N.low)
 
   module _ {plus v : ℕ} (N : IsNext plus s v) {s₁ : Writing} where
-    pub field_sent : {w : ℕ} → Pushes (ltb (v - plus) (2 ^ w)) (bits_of w (v - plus)) s (Ok tt) s₁ → Emits (field w plus done) s (Ok v) (record { rec = s₁.rec; out = s₁.out; c = s₁.c + 1; sink = s₁.sink })
+    pub field_sent : {w : ℕ} → Pushes (ltb (v - plus) (2 ^ w)) (bits_of w (v - plus)) s (Ok tt) s₁ → Emits (field w plus done) s (Ok v) (record { rec = s₁.rec; out = s₁.out; c = s₁.c + 1; so_far = s₁.so_far })
     unfolding numbers
     field_sent {w} P = emits_pushed v (number v ∷ []) (λ at i. field_is s plus N w at) P passed_one
 
     pub field_refused : {w : ℕ} {x : Refusal} → Pushes (ltb (v - plus) (2 ^ w)) (bits_of w (v - plus)) s (Err x) s₁ → Emits (field w plus done) s (Err x) s₁
     field_refused {w} P = emits_refused v (number v ∷ []) (λ at i. field_is s plus N w at) P
 
-    pub code_sent : Pushes (ltb (v - plus) 4294967295) (code_of (v - plus)) s (Ok tt) s₁ → Emits (code plus done) s (Ok v) (record { rec = s₁.rec; out = s₁.out; c = s₁.c + 1; sink = s₁.sink })
+    pub code_sent : Pushes (ltb (v - plus) 4294967295) (code_of (v - plus)) s (Ok tt) s₁ → Emits (code plus done) s (Ok v) (record { rec = s₁.rec; out = s₁.out; c = s₁.c + 1; so_far = s₁.so_far })
     unfolding numbers
     code_sent P = emits_pushed v (number v ∷ []) (λ at i. code_is s plus N at) P passed_one
 
@@ -246,7 +246,7 @@ module _ {s : Writing} where
 
   -- the number is the one that is not coded, or another
   module _ {v : ℕ} (N : IsNext 0 s v) (u : ℕ) where
-    pub inferred_kept : v ≡ u → Emits (inferred u) s (Ok u) (record { rec = s.rec; out = s.out; c = s.c + 1; sink = s.sink })
+    pub inferred_kept : v ≡ u → Emits (inferred u) s (Ok u) (record { rec = s.rec; out = s.out; c = s.c + 1; so_far = s.so_far })
     unfolding numbers
     inferred_kept e = emits_pushed u (number u ∷ []) (λ at i. kept_emits s.rec.now s.c N.left u (N.is ∙ e) at) pushes_nothing passed_one
 
@@ -264,13 +264,13 @@ module _ {s : Writing} where
     late_refused P find e = emits_refused v [] (λ at i. rw (add-zero s.c) (late_emits w v find s.rec.now (drop s.c s.rec.now) e at)) P
 
   -- zeros to the boundary
-  pub align_sent : {s₁ : Writing} (n : ℕ) → Pushes true (replicate (to_boundary s.sink.bits) 0) s (Ok tt) s₁ → Emits (aligned n) s (Ok tt) s₁
+  pub align_sent : {s₁ : Writing} (n : ℕ) → Pushes true (replicate (to_boundary s.so_far.bits) 0) s (Ok tt) s₁ → Emits (aligned n) s (Ok tt) s₁
   unfolding numbers
-  align_sent n P = emits_pushed tt [] (λ at i. rw (add-zero s.c) (aligned_emits n s.rec.now (drop s.c s.rec.now) s.sink.bits at i)) P passed_none
+  align_sent n P = emits_pushed tt [] (λ at i. rw (add-zero s.c) (aligned_emits n s.rec.now (drop s.c s.rec.now) s.so_far.bits at i)) P passed_none
 
-  pub align_refused : {s₁ : Writing} {x : Refusal} (n : ℕ) → Pushes true (replicate (to_boundary s.sink.bits) 0) s (Err x) s₁ → Emits (aligned n) s (Err x) s₁
+  pub align_refused : {s₁ : Writing} {x : Refusal} (n : ℕ) → Pushes true (replicate (to_boundary s.so_far.bits) 0) s (Err x) s₁ → Emits (aligned n) s (Err x) s₁
   unfolding numbers
-  align_refused n P = emits_refused tt [] (λ at i. rw (add-zero s.c) (aligned_emits n s.rec.now (drop s.c s.rec.now) s.sink.bits at i)) P
+  align_refused n P = emits_refused tt [] (λ at i. rw (add-zero s.c) (aligned_emits n s.rec.now (drop s.c s.rec.now) s.so_far.bits at i)) P
 
   -- a condition that doesn't hold
   pub check_fails : (n : ℕ) → Emits (check false n) s (Err NotWellFormed) s

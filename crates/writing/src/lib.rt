@@ -10,7 +10,8 @@ ghost use Rattle.writing.specs.Emits.{Ready, Stays, Emits};
 ghost use Rattle.writing.specs.Pushes.{Takes, HasNext, Pushes};
 ghost use Rattle.writing.specs.Marked.{Marked, laws};
 
-use bit_sink::Sink;
+use bit_sink::{Sink, SoFar};
+use bits::{field_width, to_boundary};
 use record_parts::{Record, number_at};
 use refusals::Refusal;
 use table_steps::Steps;
@@ -25,7 +26,8 @@ pub struct Writing<'a> {
     pub out: &'a mut [u8],
     // the record's next number
     pub c: usize,
-    pub sink: Sink,
+    // what was pushed into the output
+    pub so_far: SoFar,
 }
 
 // Whether a value has no more bits than a width, 32 at the most.
@@ -37,17 +39,6 @@ fn is_field(value: u32, width: u32) -> bool
         return value >> width == 0;
     }
     true
-}
-
-// A width, 32 at the most.
-#[inline]
-fn field_bits(width: u32) -> usize
-    ensures { result ≡ field_width width }
-{
-    if width < 32 {
-        return width as usize;
-    }
-    32
 }
 
 // How many bits a value's code has.
@@ -90,7 +81,7 @@ impl<'a> Writing<'a> {
             rec,
             out,
             c,
-            sink: Sink::new(start),
+            so_far: SoFar::new(start),
         }
     }
 
@@ -107,10 +98,16 @@ impl<'a> Writing<'a> {
     pub fn push_field(&mut self, value: u32, width: u32) -> Result<(), Refusal>
         ensures { Pushes (ltb value (2 ^ field_width width)) (bits_of (field_width width) value) self.old result self.new }
     {
-        if !takes(is_field(value, width), self.sink.bits, field_bits(width)) {
+        let more = field_width(width) as usize;
+        if !takes(is_field(value, width), self.so_far.bits, more) {
             return Err(Refusal::NotWellFormed);
         }
-        self.sink = bit_sink::put(self.out, self.sink, value, width);
+        let mut sink = Sink {
+            out: &mut *self.out,
+            so_far: self.so_far,
+        };
+        sink.put(value, width);
+        self.so_far = sink.so_far;
         Ok(())
     }
 
@@ -119,10 +116,15 @@ impl<'a> Writing<'a> {
     pub fn push_code(&mut self, value: u32) -> Result<(), Refusal>
         ensures { Pushes (ltb value 4294967295) (code_of value) self.old result self.new }
     {
-        if !takes(is_code(value), self.sink.bits, code_bits(value)) {
+        if !takes(is_code(value), self.so_far.bits, code_bits(value)) {
             return Err(Refusal::NotWellFormed);
         }
-        self.sink = bit_sink::put_code(self.out, self.sink, value);
+        let mut sink = Sink {
+            out: &mut *self.out,
+            so_far: self.so_far,
+        };
+        sink.put_code(value);
+        self.so_far = sink.so_far;
         Ok(())
     }
 
@@ -231,10 +233,16 @@ impl<'a> Steps for Writing<'a> {
     // The bits are zeros, whatever a reader refuses.
     #[inline]
     fn align(&mut self, _refusal: Option<Refusal>) -> Result<(), Refusal> {
-        if !takes(true, self.sink.bits, (8 - self.sink.bits % 8) % 8) {
+        let more = to_boundary(self.so_far.bits) as usize;
+        if !takes(true, self.so_far.bits, more) {
             return Err(Refusal::NotWellFormed);
         }
-        self.sink = bit_sink::put_zeros_to_boundary(self.out, self.sink);
+        let mut sink = Sink {
+            out: &mut *self.out,
+            so_far: self.so_far,
+        };
+        sink.put_zeros_to_boundary();
+        self.so_far = sink.so_far;
         Ok(())
     }
 

@@ -30,10 +30,10 @@ returns-clause-ends c start d lent t R T q f =
     let w = c.args.writing.now in
     let A = is_almost w.rec.now c.args.general.now t w.c c.has_end.result (c.has_end.ensures t T q f) (not-false _ (not_from_true _ c.if-not-has_end.false)) in
     let W = c.in_ok-extension.ensures.says start d lent R in
-    let H = c.finish.ensures start _ lent W.ready.holds W.ready.inside (omega (arith, W.ready.short)) in
+    let H = c.finish.ensures.finishes start _ lent W.ready.holds (omega (arith, W.ready.short)) in
     record {
       rbsp = rbsp_of d W.bits;
       is = ends_good T A d W.is (omega (arith, c.if-writing-ge-MOST_RBSP_BITS.false, W.ready.holds.counted, length-append d W.bits));
-      long = H.0;
-      stored = H.1;
+      long = H.used;
+      stored = search (rules, H.stored, c.finish.ensures.output.same);
     }

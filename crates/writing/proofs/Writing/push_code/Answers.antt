@@ -9,6 +9,4 @@ pub returns-then-not-takes : goal.returns-then-not-takes
 returns-then-not-takes c = pushes_none c.is_code.ensures (λ f. c.code_bits.ensures (ltb-true _ _ f)) c.if-not-takes.ensures
 
 pub returns : goal.returns
-returns c =
-    pushes_bits c.is_code.ensures (λ f. c.code_bits.ensures (ltb-true _ _ f)) c.if-not-takes.ensures (record { rec = refl; same = refl; long = search rules }) refl
-    (λ f start d lent h i l. c.put_code-self.ensures start d lent h i l (ltb-true _ _ f))
+returns c = pushes_bits c.is_code.ensures (λ f. c.code_bits.ensures (ltb-true _ _ f)) c.if-not-takes.ensures refl refl c.put_code.ensures.output (λ f. c.put_code.ensures.puts (ltb-true _ _ f)) (search (rules, c.put_code.ensures.output.same))

@@ -3,8 +3,8 @@ use mathlib.Core.Path.{refl}
 use lib.Dec.{lit<}
 use Rattle.bits.specs.Bits.{bits_of, pack}
 use Rattle.bit_sink.specs.SoFar.{stuffed_none}
-use Rattle.bit_sink.proofs.Sink.new.Goals as goal
+use Rattle.bit_sink.proofs.SoFar.new.Goals as goal
 
 pub returns : goal.returns
 unfolding bits_of pack
-returns c lent = record { binary = tt; counted = refl; few = lit< tt; behind = refl; stuffed = stuffed_none 0 _ lent }
+returns c l lent = record { inside = l; binary = tt; counted = refl; few = lit< tt; behind = refl; stuffed = stuffed_none 0 _ lent }

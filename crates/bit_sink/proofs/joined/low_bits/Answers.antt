@@ -3,7 +3,7 @@ use mathlib.Core.Path.{refl}
 use native.Mathlib.Omega.{arith}
 use lib.Pow.{pow_pos}
 use Rattle.bit_sink.proofs.Steps.{one_shifted, low_all}
-use Rattle.bit_sink.proofs.low_bits.Goals as goal
+use Rattle.bit_sink.proofs.joined.low_bits.Goals as goal
 
 pub returns-then-width-ge64 : goal.returns-then-width-ge64
 returns-then-width-ge64 c = low_all c.args.v c.args.width (omega arith) c.if-width-ge64.true
