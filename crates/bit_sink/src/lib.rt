@@ -1,7 +1,7 @@
 // Takes fields and codes one after the other, packs and stuffs their bits, and stores the bytes in a lent output where they fit; it counts them in any case.
 #![tactic(auto)]
 
-ghost use Rattle.std.specs.Prelude.{List, [], ◌∷◌, ℕ, ◌<◌, replicate};
+ghost use Rattle.std.specs.Prelude.{◌≡◌, List, [], ◌∷◌, ℕ, ◌<◌, replicate};
 ghost use Rattle.bits.specs.Bits.{field_width, to_boundary, bits_of, pack};
 ghost use Rattle.bits.specs.Code.{code_of};
 ghost use Rattle.bit_sink.specs.Holds.{limit, Holds};
@@ -32,7 +32,8 @@ impl SoFar {
 
     // No bits yet; the first byte goes to a place of the output.
     pub fn new(start: usize) -> Self
-        ensures { start < limit → (lent : List ℕ) → Holds start [] result lent lent }
+        ensures holds { start < limit → (lent : List ℕ) → Holds start [] result lent lent }
+        ensures value { result ≡ record { bits = 0; pending = 0; zeros = 0; len = start } }
     {
         Self {
             bits: 0,

@@ -90,60 +90,67 @@ fn store_extension(extension: &mut [u32], bytes: &[u8], at: usize)
     }
 }
 
-// Stores the table's numbers: copied where the first pass has kept them all, else read again.
-fn store_table(bytes: &[u8], small: &[u32], rec: &mut [u32], table: Table)
-    requires { table.n ≤ length rec.old }
-    ensures { (T : TableIs bytes.now table) (lent : List ℕ) → small.now ≡ sets lent 9 (numbers T.kept) → rec.new ≡ sets rec.old 9 (numbers T.kept) }
-{
-    match small.get(Record::GENERAL..table.n) {
-        Some(kept) => rec[Record::GENERAL..table.n].copy_from_slice(kept),
-        None => {
-            let _ = read_vps::read_vps(bytes, rec);
+// What the second pass goes by: the RBSP, the list that keeps the table of a small one, and what the first pass found.
+#[derive(Clone, Copy)]
+struct SecondPass<'a> {
+    bytes: &'a [u8],
+    small: &'a [u32],
+    m: Measured,
+    ghost few_numbers: { m.table.n + m.count + 9 < 2 ^ 32 },
+}
+
+impl SecondPass<'_> {
+    // Stores the table's numbers: copied where the first pass has kept them all, else read again.
+    fn store_table(&self, rec: &mut [u32])
+        requires { self.now.m.table.n ≤ length rec.old }
+        ensures { (T : TableIs self.now.bytes.now self.now.m.table) (lent : List ℕ) → self.now.small.now ≡ sets lent 9 (numbers T.kept) → rec.new ≡ sets rec.old 9 (numbers T.kept) }
+    {
+        let n = self.m.table.n;
+        match self.small.get(Record::GENERAL..n) {
+            Some(kept) => rec[Record::GENERAL..n].copy_from_slice(kept),
+            None => {
+                let _ = read_vps::read_vps(self.bytes, rec);
+            }
         }
     }
-}
 
-// The second pass: the whole record is stored.
-fn fill(bytes: &[u8], small: &[u32], rec: &mut [u32], m: Measured)
-    requires { (m.table.n + m.count + 9 < 2 ^ 32) × (m.table.n + m.count + 9 ≤ length rec.old) }
-    ensures { (lent : List ℕ) (K : Kept bytes.now lent small.now m.table m.count m.bits) → rec.new ≡ sets rec.old 0 (record_in K.found) }
-{
-    let table = m.table;
-    rec[..Record::GENERAL].copy_from_slice(&table.whole.general);
-    store_table(bytes, small, rec, table);
-    let trailer = table.n + 1 + m.count;
-    let end = trailer + Record::TRAILER;
-    store_extension(&mut rec[table.n..trailer], bytes, table.at);
-    store_trailer(&mut rec[trailer..end], table.whole.starts, end);
-}
-
-// The record where it fits.
-fn fill_where_room(
-    bytes: &[u8],
-    small: &[u32],
-    record: &mut [u32],
-    m: Measured,
-) -> Result<Parsed, NotParsed>
-    requires { m.table.n + m.count + 9 < 2 ^ 32 }
-    ensures { (lent : List ℕ) → Kept bytes.now lent small.now m.table m.count m.bits → Answers «record».old (read_limited bytes.now) result «record».new }
-{
-    let needed = m.table.n + m.count + Record::END;
-    if record.len() < needed {
-        return Err(NotParsed::RecordTooShort(needed));
+    // Stores the whole record.
+    fn fill(&self, rec: &mut [u32])
+        requires { self.now.m.table.n + self.now.m.count + 9 ≤ length rec.old }
+        ensures { (lent : List ℕ) (K : Kept self.now.bytes.now lent self.now.small.now self.now.m.table self.now.m.count self.now.m.bits) → rec.new ≡ sets rec.old 0 (record_in K.found) }
+    {
+        let table = self.m.table;
+        rec[..Record::GENERAL].copy_from_slice(&table.whole.general);
+        self.store_table(rec);
+        let trailer = table.n + 1 + self.m.count;
+        let end = trailer + Record::TRAILER;
+        store_extension(&mut rec[table.n..trailer], self.bytes, table.at);
+        store_trailer(&mut rec[trailer..end], table.whole.starts, end);
     }
-    fill(bytes, small, record, m);
-    Ok(Parsed {
-        numbers: needed,
-        bits_used: m.bits,
-    })
+
+    // Stores it where it fits.
+    fn fill_where_room(&self, record: &mut [u32]) -> Result<Parsed, NotParsed>
+        ensures { (lent : List ℕ) → Kept self.now.bytes.now lent self.now.small.now self.now.m.table self.now.m.count self.now.m.bits → Answers «record».old (read_limited self.now.bytes.now) result «record».new }
+    {
+        let m = self.m;
+        let needed = m.table.n + m.count + Record::END;
+        if record.len() < needed {
+            return Err(NotParsed::RecordTooShort(needed));
+        }
+        self.fill(record);
+        Ok(Parsed {
+            numbers: needed,
+            bits_used: m.bits,
+        })
+    }
 }
 
 // An RBSP, into a lent record, by way of another list, which keeps the table of a small one.
 fn parse_by_way_of(bytes: &[u8], small: &mut [u32], record: &mut [u32]) -> Result<Parsed, NotParsed>
     ensures { Answers «record».old (read_limited bytes.now) result «record».new }
 {
-    let measured = measure(bytes, small)?;
-    fill_where_room(bytes, small, record, measured)
+    let m = measure(bytes, small)?;
+    SecondPass { bytes, small, m }.fill_where_room(record)
 }
 
 // An RBSP, into a lent record.

@@ -5,6 +5,6 @@ use Rattle.bits.specs.Bits.{bits_of, pack}
 use Rattle.bit_sink.specs.SoFar.{stuffed_none}
 use Rattle.bit_sink.proofs.SoFar.new.Goals as goal
 
-pub returns : goal.returns
+pub returns-clause-holds : goal.returns-clause-holds
 unfolding bits_of pack
-returns c l lent = record { inside = l; binary = tt; counted = refl; few = lit< tt; behind = refl; stuffed = stuffed_none 0 _ lent }
+returns-clause-holds c l lent = record { inside = l; binary = tt; counted = refl; few = lit< tt; behind = refl; stuffed = stuffed_none 0 _ lent }
