@@ -1,11 +1,16 @@
 // Cases of writing bits: place, width, number, value, place behind, the buffer before, the buffer afterwards.
 use crate::content::is_buffer_same;
-use crate::expected::{Expected, Front, Step};
+use crate::expected::{Front, Step};
 use bit_writer::BitWriter;
 use replay_numbers::Content;
 
 // Whether a step at a place of an output says what is expected, and leaves the writer where it is to stand.
-pub fn is_step(step: Step, out: &mut [u8], at: usize, width: u32, expected: Expected) -> bool {
+pub fn is_step(step: Step, out: &mut [u8], front: Front) -> bool {
+    let Front {
+        at,
+        width,
+        expected,
+    } = front;
     let mut writer = BitWriter { out, bit_pos: at };
     let answer = match step {
         Step::Bit => writer.write_bit(expected.value),
@@ -18,14 +23,6 @@ pub fn is_step(step: Step, out: &mut [u8], at: usize, width: u32, expected: Expe
 }
 
 pub fn is_same(step: Step, mut content: Content, out: &mut [u8]) -> bool {
-    let Front {
-        at,
-        width,
-        expected,
-    } = Front::from(&mut content);
-    is_buffer_same(
-        content.rest,
-        out,
-        |out| is_step(step, out, at, width, expected),
-    )
+    let front = Front::from(&mut content);
+    is_buffer_same(content.rest, out, |out| is_step(step, out, front))
 }
