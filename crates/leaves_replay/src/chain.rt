@@ -2,67 +2,55 @@
 // buffer afterwards. A step has 9 bytes: step, width, value, number, place behind. A refused step leaves the place and
 // is not read.
 use crate::content::is_buffer_same;
-use crate::expected::{Expected, Step};
+use crate::expected::{Expected, Front, Step, outcome};
 use crate::{reading, writing};
 use replay_numbers::Content;
 
 // The bytes of a step.
 const LINK_BYTES: usize = 9;
 
-// A step of a chain; a refused one has its own place for the place behind.
+// A step of a chain, at its place.
 #[derive(Clone, Copy)]
 struct Link {
     step: Step,
-    width: u32,
-    expected: Expected,
+    front: Front,
 }
 
-// The next of the steps.
-impl<'a> From<&mut Content<'a>> for Link {
-    fn from(steps: &mut Content<'a>) -> Link {
+impl Link {
+    // The next of the steps, at a place.
+    fn next(steps: &mut Content, at: usize) -> Link {
         let step = Step::from(steps.byte());
         let width = u32::from(steps.byte());
         let value = steps.four_bytes();
+        let number = u32::from(steps.byte());
+        let next = outcome(number, steps.two_bytes() as usize);
         Link {
             step,
-            width,
-            expected: Expected {
-                number: u32::from(steps.byte()),
-                value,
-                next: steps.two_bytes() as usize,
+            front: Front {
+                at,
+                width,
+                expected: Expected { next, value },
             },
         }
     }
 }
 
-fn is_written(count: u32, mut steps: Content, out: &mut [u8]) -> bool {
+// Whether so many steps are as recorded, each at the place where the one before it leaves off.
+fn are_steps<F: Fn(Step, &mut [u8], Front) -> bool>(
+    count: u32,
+    mut steps: Content,
+    out: &mut [u8],
+    is_step: F,
+) -> bool
+    requires { F.IsAlwaysCallable is_step }
+{
     let mut at = 0;
     for _ in 0..count {
-        let Link {
-            step,
-            width,
-            expected,
-        } = Link::from(&mut steps);
-        if !writing::is_step(step, out, at, width, expected) {
+        let Link { step, front } = Link::next(&mut steps, at);
+        if !is_step(step, out, front) {
             return false;
         }
-        at = expected.next;
-    }
-    true
-}
-
-fn is_read(count: u32, mut steps: Content, bytes: &[u8]) -> bool {
-    let mut at = 0;
-    for _ in 0..count {
-        let Link {
-            step,
-            width,
-            expected,
-        } = Link::from(&mut steps);
-        if expected.number == 0 && !reading::is_step(step, bytes, at, width, expected) {
-            return false;
-        }
-        at = expected.next;
+        at = front.expected.place_from(at);
     }
     true
 }
@@ -72,7 +60,10 @@ pub fn is_same(mut content: Content, out: &mut [u8]) -> bool {
     let steps = Content {
         rest: content.bytes(count as usize * LINK_BYTES),
     };
+    let is_read = |step, out: &mut [u8], front: Front| {
+        front.expected.next.is_err() || reading::is_step(step, out, front)
+    };
     is_buffer_same(content.rest, out, |out| {
-        is_written(count, steps, out) && is_read(count, steps, out)
+        are_steps(count, steps, out, writing::is_step) && are_steps(count, steps, out, is_read)
     })
 }

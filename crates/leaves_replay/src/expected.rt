@@ -25,28 +25,32 @@ impl From<u8> for Step {
     }
 }
 
-// 0 or the number of a refusal, a value, and the place behind a step that is not refused.
+// What a success says, or the number of a refusal, by the number recorded: 0 is success.
+pub fn outcome<T: Drop>(number: u32, said: T) -> Result<T, u32> {
+    if number == 0 { Ok(said) } else { Err(number) }
+}
+
+// The place behind a step, or the number of its refusal, and a value.
 #[derive(Clone, Copy)]
 pub struct Expected {
-    pub number: u32,
+    pub next: Result<usize, u32>,
     pub value: u32,
-    pub next: usize,
 }
 
 impl Expected {
     // Where a place stands after a step from another: at a refusal where it was.
     pub fn place_from(self, at: usize) -> usize {
-        if self.number == 0 { self.next } else { at }
+        self.next.unwrap_or(at)
     }
 
     // Whether a step with the value says what is expected.
     pub fn is_value(self, answer: Result<u32, Refusal>) -> bool {
-        is_answer(answer, self.number, self.value)
+        is_answer(answer, self.next.map(|_| self.value))
     }
 
     // Whether a step without a value does.
     pub fn is_done(self, answer: Result<(), Refusal>) -> bool {
-        is_answer(answer, self.number, ())
+        is_answer(answer, self.next.map(|_| ()))
     }
 }
 
@@ -61,22 +65,20 @@ pub struct Front {
 // Taken from a case's content.
 impl<'a> From<&mut Content<'a>> for Front {
     fn from(content: &mut Content<'a>) -> Front {
+        let at = content.eight_bytes();
+        let width = content.four_bytes();
+        let number = u32::from(content.byte());
+        let value = content.four_bytes();
+        let next = outcome(number, content.eight_bytes());
         Front {
-            at: content.eight_bytes(),
-            width: content.four_bytes(),
-            expected: Expected {
-                number: u32::from(content.byte()),
-                value: content.four_bytes(),
-                next: content.eight_bytes(),
-            },
+            at,
+            width,
+            expected: Expected { next, value },
         }
     }
 }
 
-// Whether an answer is the refusal with the number recorded, or success with the value recorded where the number is 0.
-pub fn is_answer<T: PartialEq + Drop>(answer: Result<T, Refusal>, number: u32, value: T) -> bool {
-    match answer {
-        Ok(said) => number == 0 && said == value,
-        Err(refusal) => refusal.number() == number,
-    }
+// Whether an answer is the outcome recorded.
+pub fn is_answer<T: PartialEq + Drop>(answer: Result<T, Refusal>, outcome: Result<T, u32>) -> bool {
+    answer.map_err(Refusal::number) == outcome
 }

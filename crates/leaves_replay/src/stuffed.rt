@@ -1,6 +1,6 @@
 // Cases of stuffing. Adding and removing: number, bytes written, length of the input, the input, the output afterwards.
 // Measuring: the length, the input.
-use crate::expected::is_answer;
+use crate::expected::{is_answer, outcome};
 use refusals::Refusal;
 use replay_numbers::{Content, fill_pattern};
 
@@ -20,7 +20,7 @@ pub(crate) fn is_same<F: FnOnce(&[u8], &mut [u8]) -> Result<usize, Refusal>>(
         return false;
     };
     fill_pattern(out);
-    is_answer(stuffed(input, out), number, written) && check::same(out, content.rest)
+    is_answer(stuffed(input, out), outcome(number, written)) && check::same(out, content.rest)
 }
 
 // Replays measuring.

@@ -1,31 +1,28 @@
 // Cases of writing bits: place, width, number, value, place behind, the buffer before, the buffer afterwards.
 use crate::content::is_buffer_same;
-use crate::expected::{Expected, Front, Step};
+use crate::expected::{Front, Step};
 use bit_writer::BitWriter;
 use replay_numbers::Content;
 
+// As it is (2): `reading::is_step` calls the reader, each step with other arguments and another answer: one function of both would take five closures.
 // Whether a step at a place of an output says what is expected, and leaves the writer where it is to stand.
-pub fn is_step(step: Step, out: &mut [u8], at: usize, width: u32, expected: Expected) -> bool {
-    let mut writer = BitWriter { out, bit_pos: at };
+pub fn is_step(step: Step, out: &mut [u8], front: Front) -> bool {
+    let expected = front.expected;
+    let mut writer = BitWriter {
+        out,
+        bit_pos: front.at,
+    };
     let answer = match step {
         Step::Bit => writer.write_bit(expected.value),
-        Step::Field => writer.write_bits(expected.value, width),
+        Step::Field => writer.write_bits(expected.value, front.width),
         Step::Code => writer.write_ue(expected.value),
         Step::Alignment => writer.align_to_byte(),
         Step::Trailing => writer.write_rbsp_trailing_bits(),
     };
-    expected.is_done(answer) && writer.bit_pos == expected.place_from(at)
+    expected.is_done(answer) && writer.bit_pos == expected.place_from(front.at)
 }
 
 pub fn is_same(step: Step, mut content: Content, out: &mut [u8]) -> bool {
-    let Front {
-        at,
-        width,
-        expected,
-    } = Front::from(&mut content);
-    is_buffer_same(
-        content.rest,
-        out,
-        |out| is_step(step, out, at, width, expected),
-    )
+    let front = Front::from(&mut content);
+    is_buffer_same(content.rest, out, |out| is_step(step, out, front))
 }

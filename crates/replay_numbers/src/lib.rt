@@ -4,38 +4,6 @@
 ghost use Rattle.std.specs.Prelude.{ℕ, ◌≡◌, ◌-◌, ◌%◌, ◌<◌, get_or, take, drop, length, HoldsAt};
 ghost use Rattle.replay_numbers.specs.Numbers.{two, four, eight, number_at, place_behind, behind_numbers};
 
-// The first N bytes; past the end each byte is 0.
-fn padded<const N: usize>(content: &[u8]) -> [u8; N]
-    ensures { (k : ℕ) → k < N → get_or result k 0 ≡ get_or content.now k 0 }
-{
-    let mut bytes = [0; N];
-    for (i, byte) in bytes.iter_mut().enumerate() {
-        *byte = content.get(i).copied().unwrap_or(0);
-    }
-    bytes
-}
-
-// The number of the first two bytes, the highest byte first.
-fn two_bytes(content: &[u8]) -> u32
-    ensures { (result ≡ two content.now) × (result < 65536) }
-{
-    u32::from(u16::from_be_bytes(padded(content)))
-}
-
-// The number of the first four bytes.
-fn four_bytes(content: &[u8]) -> u32
-    ensures { result ≡ four content.now }
-{
-    u32::from_be_bytes(padded(content))
-}
-
-// The number of the first eight bytes.
-fn eight_bytes(content: &[u8]) -> usize
-    ensures { result ≡ eight content.now }
-{
-    usize::from_be_bytes(padded(content))
-}
-
 // What is left of a content: bytes and numbers are taken from its front; past the end each byte is 0.
 #[derive(Clone, Copy)]
 pub struct Content<'a> {
@@ -53,22 +21,33 @@ impl<'a> Content<'a> {
         bytes
     }
 
+    // The next N bytes; past the end each byte is 0.
+    fn padded<const N: usize>(&mut self) -> [u8; N]
+        ensures value { (k : ℕ) → k < N → get_or result k 0 ≡ get_or self.old.rest.now k 0 }
+        ensures rest { self.new.rest.now ≡ drop N self.old.rest.now }
+    {
+        let next = self.bytes(N);
+        let mut bytes = [0; N];
+        bytes[..next.len()].copy_from_slice(next);
+        bytes
+    }
+
     // The next byte.
     pub fn byte(&mut self) -> u8
         ensures value { result ≡ get_or self.old.rest.now 0 0 }
         ensures rest { self.new.rest.now ≡ drop 1 self.old.rest.now }
     {
-        let [byte] = padded::<1>(self.bytes(1));
+        let [byte] = self.padded::<1>();
         byte
     }
 
-    // The number of the next two bytes.
+    // The number of the next two bytes, the highest byte first.
     pub fn two_bytes(&mut self) -> u32
         ensures value { result ≡ two self.old.rest.now }
         ensures least { result < 65536 }
         ensures rest { self.new.rest.now ≡ drop 2 self.old.rest.now }
     {
-        two_bytes(self.bytes(2))
+        u32::from(u16::from_be_bytes(self.padded()))
     }
 
     // The number of the next four bytes.
@@ -76,7 +55,7 @@ impl<'a> Content<'a> {
         ensures value { result ≡ four self.old.rest.now }
         ensures rest { self.new.rest.now ≡ drop 4 self.old.rest.now }
     {
-        four_bytes(self.bytes(4))
+        u32::from_be_bytes(self.padded())
     }
 
     // The number of the next eight bytes.
@@ -84,7 +63,7 @@ impl<'a> Content<'a> {
         ensures value { result ≡ eight self.old.rest.now }
         ensures rest { self.new.rest.now ≡ drop 8 self.old.rest.now }
     {
-        eight_bytes(self.bytes(8))
+        usize::from_be_bytes(self.padded())
     }
 
     // The next number among others: a byte below 255, or 255 and four bytes.

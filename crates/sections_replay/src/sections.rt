@@ -1,48 +1,47 @@
 // A case: how many numbers the record has, how many parts are asked, the record's numbers, and the parts: a section's
 // number, the index of its first number, and how many there are.
 use replay_numbers::Content;
-use vps_sections::{section, section_part};
+use vps_sections::{Part, section, section_part};
 
 // The longest record.
 const MOST_NUMBERS: usize = 1024;
 
-// A part of a record, as it is recorded.
+// A section and the part of the record that it is, as they are recorded.
 #[derive(Clone, Copy)]
-struct Part {
+struct Found {
     section: u32,
-    start: usize,
-    count: usize,
+    part: Part,
 }
 
 // The next of the parts.
-impl<'a> From<&mut Content<'a>> for Part {
-    fn from(content: &mut Content<'a>) -> Part {
-        Part {
+impl<'a> From<&mut Content<'a>> for Found {
+    fn from(content: &mut Content<'a>) -> Found {
+        Found {
             section: content.number(),
-            start: content.number() as usize,
-            count: content.number() as usize,
+            part: Part {
+                start: content.number() as usize,
+                count: content.number() as usize,
+            },
         }
     }
 }
 
-impl Part {
+impl Found {
     // Whether the section is this part of the record.
     fn is_in(self, record: &[u32]) -> bool {
-        let found = section_part(record, self.section);
-        if found.start != self.start || found.count != self.count {
-            return false;
-        }
-        match record.get(self.start..) {
-            Some(from_start) => from_start.get(..self.count) == Some(section(record, self.section)),
-            None => false,
-        }
+        let Part { start, count } = self.part;
+        let numbers = record
+            .get(start..)
+            .and_then(|from_start| from_start.get(..count));
+        section_part(record, self.section) == self.part
+            && numbers == Some(section(record, self.section))
     }
 }
 
 // Whether so many parts are as recorded, and nothing is behind them.
 fn are_parts(mut content: Content, count: u32, record: &[u32]) -> bool {
     for _ in 0..count {
-        if !Part::from(&mut content).is_in(record) {
+        if !Found::from(&mut content).is_in(record) {
             return false;
         }
     }

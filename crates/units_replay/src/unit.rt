@@ -68,29 +68,18 @@ impl<'a> Case<'a> {
 
     // Whether the work buffer begins with the RBSP and is as before behind it.
     fn is_work_same(&self, work: &[u8]) -> bool {
-        let length = self.rbsp_length();
-        let mut expected = [0; MOST_BYTES];
-        if expected.len() < work.len() || work.len() < length {
-            return false;
-        }
-        let expected = &mut expected[..work.len()];
-        fill_pattern(expected);
-        put_repeated(self.rbsp, &mut expected[..length]);
-        work == &*expected
+        is_begun(work, self.rbsp_length(), &mut [0; MOST_BYTES], |start| {
+            put_repeated(self.rbsp, start)
+        })
     }
 
     // Whether the record begins with the numbers and is as before behind them.
     fn is_record_same(&self, record: &[u32]) -> bool {
         let length = self.answer.map_or(0, |parsed| parsed.numbers);
-        let mut expected = [0; MOST_NUMBERS];
-        if expected.len() < record.len() || record.len() < length {
-            return false;
-        }
-        let expected = &mut expected[..record.len()];
-        fill_pattern(expected);
         let mut numbers = self.numbers;
-        numbers.put_numbers(&mut expected[..length]);
-        record == &*expected
+        is_begun(record, length, &mut [0; MOST_NUMBERS], |start| {
+            numbers.put_numbers(start)
+        })
     }
 
     // Whether the reader's answer and both buffers are as recorded.
@@ -123,6 +112,24 @@ impl<'a> Case<'a> {
 fn read_bytes<'a>(content: &mut Content<'a>) -> &'a [u8] {
     let length = content.two_bytes() as usize;
     content.bytes(length)
+}
+
+// Whether a buffer begins with what is put into so many of its numbers, and is as before behind them.
+fn is_begun<T: From<u8> + PartialEq + Drop, F: FnOnce(&mut [T])>(
+    buffer: &[T],
+    length: usize,
+    expected: &mut [T],
+    put: F,
+) -> bool
+    requires { F.IsAlwaysCallable put }
+{
+    if expected.len() < buffer.len() || buffer.len() < length {
+        return false;
+    }
+    let expected = &mut expected[..buffer.len()];
+    fill_pattern(expected);
+    put(&mut expected[..length]);
+    buffer == &*expected
 }
 
 // Puts bytes into the start of a buffer, and their last one again into what is behind it.

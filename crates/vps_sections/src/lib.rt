@@ -6,7 +6,7 @@ ghost use Rattle.vps_sections.specs.Parts.{IsPart, PartOf};
 use record_parts::Record;
 
 // A part of a record: the index of its first number, and how many there are.
-#[derive(Clone, Copy)]
+#[derive(Clone, Copy, PartialEq, Eq)]
 pub struct Part {
     pub start: usize,
     pub count: usize,
