@@ -4,7 +4,7 @@ use Rattle.vps_definition.specs.OutputLayerSets.{digit, count_below}
 use Rattle.layer_sets.specs.Masks.{bit_of}
 use Rattle.layer_sets.specs.Rows.{digit_most}
 use Rattle.vps_sets.specs.Rows.{rows_begin, rows_turn, rows_end, rows_break}
-use Rattle.vps_sets.proofs.rows.Goals as goal
+use Rattle.vps_sets.proofs.Layers.rows.Goals as goal
 
 pub loop-init : goal.loop-init
 loop-init g c = (omega arith, omega arith, rows_begin g.S.Steps.laws _)
