@@ -1,7 +1,7 @@
 // The VPS's output layer sets, read or written, and counted by the masks of the layers.
 #![tactic(auto)]
 
-ghost use Rattle.std.specs.Prelude.{◌≡◌, List, [], ℕ, ◌+◌, ◌<◌, ◌≤◌, ◌&&◌, cond, ltb, eqb};
+ghost use Rattle.std.specs.Prelude.{◌≡◌, List, [], ℕ, ◌+◌, ◌<◌, ◌≤◌, ◌&&◌, cond, ltb, eqb, take};
 ghost use Rattle.refusals.specs.declared.refusal.Refusal.{Refusal};
 ghost use Rattle.vps_definition.specs.Syntax.Syntax.{test};
 ghost use Rattle.vps_definition.specs.Words.{general_if, loop};
@@ -72,15 +72,24 @@ struct Layers<'a> {
 }
 
 impl Layers<'_> {
+    // The masks, one for each layer where there are as many.
+    fn masks(&self) -> &[u64]
+        ensures { result.now ≡ take self.now.h.layers self.now.closed.now }
+    {
+        let n = self.h.layers as usize;
+        self.closed.get(..n).unwrap_or(self.closed)
+    }
+
     // The rows; each row's output layers, with all that these reach, are one or several layers.
     fn rows<S: Steps>(&self, steps: &mut S, count: u32) -> Result<Counts, Refusal>
         requires { count ≤ 256 }
         ensures { Gives S.goes (RowsMet self.now.h.layers self.now.closed.now) (loop (row self.now.h.layers) count 0 []) steps.old result steps.new }
     {
+        let closed = self.masks();
         let mut multi = 0;
         for _ in 0..count {
             let outputs = row(steps, self.h)?;
-            let layers = layer_sets::cover(self.closed, outputs, self.h.layers as usize);
+            let layers = layer_sets::cover(closed, outputs);
             multi = count_row(multi, layer_sets::is_multi(layers));
         }
         Ok(Counts {
