@@ -1,14 +1,15 @@
 -- Closed masks: each has the layers that its layer reaches. A row's layers and how many there are follow from them.
-use Rattle.std.specs.Prelude.{ℕ, zero, suc, ◌+◌, ◌-◌, ◌^◌, ◌<◌, ◌≤◌, ◌≡◌, refl, List, Bool, true, false, ◌||◌, length, set, get_or}
-use Rattle.std.proofs.Common.{suc-le-suc, arith, zero-add, suc-add, ◌∙◌, ⊎_elim, below_more, get_or-set_same, get_or-set_other}
+use Rattle.std.specs.Prelude.{ℕ, zero, suc, ◌+◌, ◌-◌, ◌^◌, ◌<◌, ◌≤◌, ◌≡◌, refl, List, Bool, true, false, ◌&&◌, ◌||◌, length, set, get_or, take, min}
+use Rattle.std.proofs.Common.{suc-le-suc, arith, add-zero, length-take, get_or-take, zero-add, suc-add, ◌∙◌, ⊎_elim, below_more, get_or-set_same, get_or-set_other}
+use Rattle.std.proofs.lemmas.List.{get_or_past}
 use Rattle.std.proofs.Math.Numerals.{add-one}
 use Rattle.std.proofs.Math.Path.{sym, ap}
-use Rattle.std.proofs.Math.Bool.{or_assoc, or-false}
+use Rattle.std.proofs.Math.Bool.{or_assoc, or-false, and-false}
 use Rattle.vps_definition.specs.OutputLayerSets.{any_below, digit, count_below, with_reached, reaches, included, Reaches}
 use Rattle.vps_definition.specs.OutputLayerSets.Reaches.{direct, through}
 use Rattle.vps_laws.specs.OutputLayerSets.{with_ext, reaches_law, reaches_ext, included_sound, count_ext, count_none}
 use Rattle.layer_sets.specs.Masks.{mask_of, bit_of, bit_at}
-use Rattle.layer_sets.specs.MaskLaws.{mask_ext, mask_bit, mask_of_bits}
+use Rattle.layer_sets.specs.MaskLaws.{mask_ext, mask_bit, mask_of_bits, bit_empty}
 
 -- the masks of the layers below n
 pub record Closed (refers : ℕ → ℕ → Bool) (closed : List ℕ) (n : ℕ) : Type 0 where
@@ -32,6 +33,36 @@ module _ (closed : List ℕ) (m : ℕ) where
       → all ≡ mask_of 64 (with_reached (k + 1) (bit_at closed) (bit_of m))
   unfolding with_reached any_below bit_at
   cover_same k all e ih = ih ∙ mask_ext 64 _ _ (λ j l. rw add-one (simp (e, or-false)))
+
+-- ── The first masks ───────────────────────────────────────────────────
+-- numbers that fail add none
+any_past : (f : ℕ → Bool) (m d : ℕ) → ((k : ℕ) → m ≤ k → k < m + d → f k ≡ false) → any_below (m + d) f ≡ any_below m f
+unfolding any_below
+any_past f m zero h = ap (λ (n : ℕ). any_below n f) (add-zero m)
+any_past f m (suc d) h =
+    let e : m + suc d ≡ suc (m + d) = omega arith in
+    ap (λ (n : ℕ). any_below n f) e ∙ ap (λ (b : Bool). any_below (m + d) f || b) (h (m + d) (omega arith) (omega arith)) ∙ or-false _
+    ∙ any_past f m d (λ k u v. h k u (omega arith))
+
+-- a layer without a mask reaches nothing
+reached_first : (masks : List ℕ) (n : ℕ) (p : ℕ → Bool) (j : ℕ) → with_reached (length (take n masks)) (bit_at (take n masks)) p j ≡ with_reached n (bit_at masks) p j
+unfolding with_reached bit_at
+reached_first masks n p j =
+    let m : ℕ = length (take n masks) in
+    let l : m ≡ min n (length masks) = length-take n masks in
+    let e : m + (n - m) ≡ n = omega (arith, l) in
+    let past : (k : ℕ) → m ≤ k → k < m + (n - m) → (p k && bit_of (get_or masks k 0) j) ≡ false =
+        λ k u v.
+        ap (λ (x : ℕ). p k && bit_of x j) (get_or_past masks k 0 (omega (arith, l, u, v, e)))
+        ∙ ap (λ (b : Bool). p k && b) (bit_empty j) ∙ and-false (p k) in
+    with_ext m (bit_at (take n masks)) (bit_at masks) p p j refl (λ k u. refl) (λ k u. ap (λ (x : ℕ). bit_of x j) (get_or-take n masks k 0 (omega (arith, l, u))))
+    ∙ ap (λ (b : Bool). p j || b) (sym (any_past _ m (n - m) past))
+    ∙ ap (λ (k : ℕ). with_reached k (bit_at masks) p j) e
+
+-- by the first n masks alone, or by all where there are fewer, `cover` gives what the layers below n reach
+pub cover_first : (masks : List ℕ) (n : ℕ) (p : ℕ → Bool)
+    → mask_of 64 (with_reached (length (take n masks)) (bit_at (take n masks)) p) ≡ mask_of 64 (with_reached n (bit_at masks) p)
+cover_first masks n p = mask_ext 64 _ _ (λ j l. reached_first masks n p j)
 
 -- ── One layer more ────────────────────────────────────────────────────
 -- masks that stand for the rows r and the set p

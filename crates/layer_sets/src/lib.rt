@@ -1,7 +1,7 @@
 // Sets of layers as 64-bit masks, one bit for each layer: single layers, unions, and what layers reach.
 #![tactic(auto)]
 
-ghost use Rattle.std.specs.Prelude.{◌≡◌, ◌||◌, set, get_or, ltb, eqb};
+ghost use Rattle.std.specs.Prelude.{◌≡◌, ◌||◌, set, length, ltb, eqb};
 ghost use Rattle.vps_definition.specs.OutputLayerSets.{count_below, with_reached};
 ghost use Rattle.layer_sets.specs.Masks.{mask_of, bit_of, bit_at};
 ghost use Rattle.layer_sets.specs.Flags.{with_flag};
@@ -49,26 +49,25 @@ pub fn is_multi(mask: u64) -> bool
     mask.count_ones() > 1
 }
 
-// The layers of the mask, and what those below n reach by their closed masks.
-pub fn cover(closed: &[u64], mask: u64, n: usize) -> u64
-    ensures { result ≡ mask_of 64 (with_reached n (bit_at closed.now) (bit_of mask)) }
+// The layers of the mask, and what they reach by the closed masks; a layer without one reaches nothing.
+pub fn cover(closed: &[u64], mask: u64) -> u64
+    ensures { result ≡ mask_of 64 (with_reached (length closed.now) (bit_at closed.now) (bit_of mask)) }
 {
     let mut all = mask;
-    for k in 0..n {
+    for (k, reached) in closed.iter().enumerate() {
         if has(mask, k) {
-            all = union(all, closed.get(k).copied().unwrap_or(0));
+            all = union(all, *reached);
         }
     }
     all
 }
 
 // Stores the closed mask of layer i, which refers directly to the layers of `direct`, where there is such a place.
-// As it is (6): i is a layer's number, under which its mask stands; it says how long nothing is.
+// As it is (6): i is a layer's number, and how many masks stand before its own.
 pub fn close(closed: &mut [u64], direct: u64, i: usize)
     ensures { closed.new ≡ set closed.old i (mask_of 64 (with_reached i (bit_at closed.old) (bit_of direct))) }
 {
-    let mask = cover(closed, direct, i);
     if i < closed.len() {
-        closed[i] = mask;
+        closed[i] = cover(&closed[..i], direct);
     }
 }

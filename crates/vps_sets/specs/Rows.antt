@@ -1,11 +1,13 @@
 -- Rows of output layers that are gone along one by one, counted where they have more than one layer.
-use Rattle.std.specs.Prelude.{ℕ, ◌+◌, ◌<◌, ◌≤◌, ◌≡◌, List, [], ◌∷◌, ◌++◌, length, Result, Ok, Err}
-use Rattle.std.proofs.Common.{arith, ap}
+use Rattle.std.specs.Prelude.{ℕ, ◌+◌, ◌<◌, ◌≤◌, ◌≡◌, List, [], ◌∷◌, ◌++◌, length, take, Result, Ok, Err}
+use Rattle.std.proofs.Common.{arith, ap, ◌∙◌}
 use Rattle.refusals.specs.declared.refusal.Refusal.{Refusal}
 use Rattle.vps_definition.specs.Syntax.{Syntax}
 use Rattle.vps_definition.specs.Words.{loop}
-use Rattle.vps_definition.specs.OutputLayerSets.{digit}
+use Rattle.vps_definition.specs.OutputLayerSets.{digit, with_reached}
 use Rattle.vps_definition.specs.Vps.{row}
+use Rattle.layer_sets.specs.Masks.{mask_of, bit_of, bit_at}
+use Rattle.layer_sets.specs.Closed.{cover_first}
 use Rattle.layer_sets.specs.Flags.{Held}
 use Rattle.layer_sets.specs.Rows.{several, RowsHeld, rows_none, rows_more}
 use Rattle.table_steps.specs.Laws.{StepsLaws, goes_as}
@@ -29,6 +31,11 @@ pub record RowsSoFar {S : Type 0} (goes : (A : Type 0) → Syntax A → S → Re
   pub rows : List (List ℕ)
   pub done : goes (List (List ℕ)) (loop (row n) i 0 []) s (Ok rows) s'
   pub held : RowsHeld n closed rows (i + 1) multi
+
+-- what `cover` gives by the masks of n layers
+pub covered : (closed : List ℕ) {masks : List ℕ} (n mask : ℕ) {layers : ℕ} → masks ≡ take n closed → layers ≡ mask_of 64 (with_reached (length masks) (bit_at masks) (bit_of mask))
+    → layers ≡ mask_of 64 (with_reached n (bit_at closed) (bit_of mask))
+covered closed n mask e m = m ∙ ap (λ (x : List ℕ). mask_of 64 (with_reached (length x) (bit_at x) (bit_of mask))) e ∙ cover_first closed n (bit_of mask)
 
 module _ {S : Type 0} {place : S → ℕ} {goes : (A : Type 0) → Syntax A → S → Result A Refusal → S → Type 0}
     {marked : (A : Type 0) → Syntax A → S → Result A Refusal → S → List ℕ → Type 0} (L : StepsLaws place goes marked) (n : ℕ) where

@@ -1,5 +1,6 @@
 -- The output layer sets that are gone along: how many there are, and how many have more than one layer.
-use Rattle.std.specs.Prelude.{ℕ, ◌≡◌, List, [], ◌∷◌, Bool, true, false, ◌&&◌, cond, ltb, leb, eqb, Result, Ok, Err}
+use Rattle.std.specs.Prelude.{ℕ, ◌≡◌, refl, List, [], ◌∷◌, Bool, true, false, ◌&&◌, cond, ltb, leb, eqb, Result, Ok, Err}
+use Rattle.std.proofs.Common.{sym, subst}
 use Rattle.refusals.specs.Number.{mode_reserved}
 use Rattle.refusals.specs.declared.refusal.Refusal.{Refusal}
 use Rattle.vps_definition.specs.Syntax.{Syntax, ◌>>=◌}
@@ -22,10 +23,20 @@ use Rattle.vps_sets.specs.Rows.{RowsMet}
 abbrev pub SetsMet : (n : ℕ) (refs : List (List ℕ)) → Counts → OutputLayerSets.Sets → Type 0
 SetsMet n refs x sets = Counted n refs sets x.total x.multi
 
+-- the table's sets are rows, and the numbers in hand are theirs
+pub record ChosenMet (n : ℕ) (closed : List ℕ) (x : Counts) (sets : OutputLayerSets.Sets) : Type 0 where
+  pub rows : List (List ℕ)
+  pub is : sets ≡ chosen rows
+  pub met : RowsMet n closed x rows
+
+-- by the masks of the layers they are those of the sets
+chosen_met : {refs : List (List ℕ)} {closed : List ℕ} {n : ℕ} {x : Counts} {sets : OutputLayerSets.Sets} → Known refs closed n → ChosenMet n closed x sets → SetsMet n refs x sets
+chosen_met {refs} {n = n} {x = x} K C = subst (SetsMet n refs x) (sym C.is) (counted_chosen _ K C.met)
+
 -- the whole section, with its two fields, and where it starts in the record
 abbrev pub SectionMet : {S : Type 0} (marked : (A : Type 0) → Syntax A → S → Result A Refusal → S → List ℕ → Type 0) (h : Vps.Header) (refs : List (List ℕ)) → S → Result Sets Refusal → S → Type 0
 SectionMet marked h refs s (Ok x) s' =
-    (sets : OutputLayerSets.Sets) × Counted h.layers refs sets x.total x.multi
+    (sets : OutputLayerSets.Sets) × SetsMet h.layers refs x.counts sets
     × marked Vps.SetsRead (Vps.sets_section h) s (Ok (record { each_layer_flag = x.each_layer_flag; mode_idc = x.mode_idc; sets = sets })) s' (x.start ∷ [])
 SectionMet marked h refs s (Err e) s' = marked Vps.SetsRead (Vps.sets_section h) s (Err e) s' []
 
@@ -42,11 +53,17 @@ module _ {S : Type 0} {place : S → ℕ} {goes : (A : Type 0) → Syntax A → 
   goes_no_rows_stop sets G = L.goes_stop (inferred 0) (λ v. done sets) G
 
   -- the rows behind their count
-  pub goes_chosen : {refs : List (List ℕ)} {closed : List ℕ} {n count : ℕ} (r : Result Counts Refusal) {s s₁ : S} (s₂ : S) → Known refs closed n
-      → goes ℕ (u_minus1 8) s (Ok count) s₁ → Gives goes (RowsMet n closed) (loop (row n) count 0 []) s₁ r s₂ → Gives goes (SetsMet n refs) (rows_section n) s r s₂
+  pub goes_chosen : (closed : List ℕ) (n : ℕ) {count : ℕ} (r : Result Counts Refusal) {s s₁ : S} (s₂ : S)
+      → goes ℕ (u_minus1 8) s (Ok count) s₁ → Gives goes (RowsMet n closed) (loop (row n) count 0 []) s₁ r s₂ → Gives goes (ChosenMet n closed) (rows_section n) s r s₂
   unfolding rows_section
-  goes_chosen (Ok x) s₂ K G R = (chosen R.0, counted_chosen _ K R.1, L.goes_then _ _ G (L.goes_then _ _ R.2 L.goes_done))
-  goes_chosen (Err e) s₂ K G R = L.goes_then _ _ G (L.goes_stop _ _ R)
+  goes_chosen closed n (Ok x) s₂ G R = (chosen R.0, record { rows = R.0; is = refl; met = R.1 }, L.goes_then _ _ G (L.goes_then _ _ R.2 L.goes_done))
+  goes_chosen closed n (Err e) s₂ G R = L.goes_then _ _ G (L.goes_stop _ _ R)
+
+  -- counted by the masks of the layers
+  pub chosen_counted : {refs : List (List ℕ)} {closed : List ℕ} {n : ℕ} (r : Result Counts Refusal) (s s₁ : S) → Known refs closed n
+      → Gives goes (ChosenMet n closed) (rows_section n) s r s₁ → Gives goes (SetsMet n refs) (rows_section n) s r s₁
+  chosen_counted (Ok x) s s₁ K G = (G.0, chosen_met K G.1, G.2)
+  chosen_counted (Err e) s s₁ K G = G
 
   -- a table that a known condition chooses
   pub gives_yes : {A B : Type 0} (R : A → B → Type 0) {b : Bool} (m n : Syntax B) (r : Result A Refusal) (s s' : S) → b ≡ true → Gives goes R m s r s' → Gives goes R (test b m n) s r s'

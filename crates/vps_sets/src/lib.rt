@@ -1,7 +1,7 @@
 // The VPS's output layer sets, read or written, and counted by the masks of the layers.
 #![tactic(auto)]
 
-ghost use Rattle.std.specs.Prelude.{◌≡◌, List, [], ℕ, ◌+◌, ◌<◌, ◌≤◌, ◌&&◌, cond, ltb, eqb};
+ghost use Rattle.std.specs.Prelude.{◌≡◌, List, [], ℕ, ◌+◌, ◌<◌, ◌≤◌, ◌&&◌, cond, ltb, eqb, take};
 ghost use Rattle.refusals.specs.declared.refusal.Refusal.{Refusal};
 ghost use Rattle.vps_definition.specs.Syntax.Syntax.{test};
 ghost use Rattle.vps_definition.specs.Words.{general_if, loop};
@@ -10,11 +10,11 @@ ghost use Rattle.vps_definition.specs.OutputLayerSets as OutputLayerSets;
 ghost use Rattle.vps_definition.specs.OutputLayerSets.{digit};
 ghost use Rattle.vps_definition.specs.OutputLayerSets.Sets.{each_layer, up_to};
 ghost use Rattle.table_steps.specs.Answers.{Gives};
-ghost use Rattle.layer_sets.specs.Counted.{Known, Counted};
+ghost use Rattle.layer_sets.specs.Counted.{Known};
 ghost use Rattle.vps_fields.specs.Header.{header_of};
 ghost use Rattle.vps_layers.specs.Flags.{FlagsMet};
 ghost use Rattle.vps_sets.specs.Rows.{RowMet, RowsMet};
-ghost use Rattle.vps_sets.specs.Sets.{SetsMet, SectionMet};
+ghost use Rattle.vps_sets.specs.Sets.{ChosenMet, SetsMet, SectionMet};
 
 use refusals::Refusal;
 use table_steps::Steps;
@@ -51,61 +51,78 @@ fn count_row(multi: u32, more: bool) -> u32
 
 // How many sets there are, and how many have more than one layer.
 #[derive(Clone, Copy)]
-struct Counts {
-    total: u32,
-    multi: u32,
-}
-
-// The rows; each row's output layers, with all that these reach, are one or several layers.
-fn rows<S: Steps>(steps: &mut S, closed: &[u64], h: Header, count: u32) -> Result<Counts, Refusal>
-    requires { count ≤ 256 }
-    ensures { Gives S.goes (RowsMet h.layers closed.now) (loop (row h.layers) count 0 []) steps.old result steps.new }
-{
-    let mut multi = 0;
-    for _ in 0..count {
-        let outputs = row(steps, h)?;
-        let layers = layer_sets::cover(closed, outputs, h.layers as usize);
-        multi = count_row(multi, layer_sets::is_multi(layers));
-    }
-    Ok(Counts {
-        total: count + 1,
-        multi,
-    })
-}
-
-// The rows behind their count.
-fn chosen<S: Steps>(steps: &mut S, closed: &[u64], h: Header) -> Result<Counts, Refusal>
-    ensures { (refs : List (List ℕ)) → Known refs closed.now h.layers → Gives S.goes (SetsMet h.layers refs) (rows_section h.layers) steps.old result steps.new }
-{
-    let count = steps.u_minus1()?;
-    rows(steps, closed, h, count)
+pub struct Counts {
+    pub total: u32,
+    pub multi: u32,
 }
 
 // No rows: a 0 stands for their count.
-fn no_rows<S: Steps>(steps: &mut S, total: u32, multi: u32) -> Result<Counts, Refusal>
-    ensures { (n : ℕ) (refs : List (List ℕ)) (sets : OutputLayerSets.Sets) → Counted n refs sets total multi → Gives S.goes (SetsMet n refs) (no_rows sets) steps.old result steps.new }
+fn no_rows<S: Steps>(steps: &mut S, counts: Counts) -> Result<Counts, Refusal>
+    ensures { (n : ℕ) (refs : List (List ℕ)) (sets : OutputLayerSets.Sets) → SetsMet n refs counts sets → Gives S.goes (SetsMet n refs) (no_rows sets) steps.old result steps.new }
 {
     steps.infer(0)?;
-    Ok(Counts { total, multi })
+    Ok(counts)
 }
 
-impl Counts {
-    // The sets by the two fields before them.
-    fn of<S: Steps>(
-        steps: &mut S,
-        closed: &[u64],
-        h: Header,
-        each: u32,
-        mode: u32,
-    ) -> Result<Counts, Refusal>
-        ensures { (refs : List (List ℕ)) → Known refs closed.now h.layers → Gives S.goes (SetsMet h.layers refs) (test (eqb each 0) (test (eqb mode 2) (rows_section h.layers) (no_rows up_to)) (no_rows each_layer)) steps.old result steps.new }
+// The layers that the sets are made of: the first fields, and the closed mask of each layer.
+#[derive(Clone, Copy)]
+struct Layers<'a> {
+    h: Header,
+    closed: &'a [u64],
+}
+
+impl Layers<'_> {
+    // The masks, one for each layer where there are as many.
+    fn masks(&self) -> &[u64]
+        ensures { result.now ≡ take self.now.h.layers self.now.closed.now }
     {
+        let n = self.h.layers as usize;
+        self.closed.get(..n).unwrap_or(self.closed)
+    }
+
+    // The rows; each row's output layers, with all that these reach, are one or several layers.
+    fn rows<S: Steps>(&self, steps: &mut S, count: u32) -> Result<Counts, Refusal>
+        requires { count ≤ 256 }
+        ensures { Gives S.goes (RowsMet self.now.h.layers self.now.closed.now) (loop (row self.now.h.layers) count 0 []) steps.old result steps.new }
+    {
+        let closed = self.masks();
+        let mut multi = 0;
+        for _ in 0..count {
+            let outputs = row(steps, self.h)?;
+            let layers = layer_sets::cover(closed, outputs);
+            multi = count_row(multi, layer_sets::is_multi(layers));
+        }
+        Ok(Counts {
+            total: count + 1,
+            multi,
+        })
+    }
+
+    // The rows behind their count.
+    fn chosen<S: Steps>(&self, steps: &mut S) -> Result<Counts, Refusal>
+        ensures { Gives S.goes (ChosenMet self.now.h.layers self.now.closed.now) (rows_section self.now.h.layers) steps.old result steps.new }
+    {
+        let count = steps.u_minus1()?;
+        self.rows(steps, count)
+    }
+
+    // The sets by the two fields before them.
+    fn sets<S: Steps>(&self, steps: &mut S, each: u32, mode: u32) -> Result<Counts, Refusal>
+        ensures { (refs : List (List ℕ)) → Known refs self.now.closed.now self.now.h.layers → Gives S.goes (SetsMet self.now.h.layers refs) (test (eqb each 0) (test (eqb mode 2) (rows_section self.now.h.layers) (no_rows up_to)) (no_rows each_layer)) steps.old result steps.new }
+    {
+        let total = self.h.layers;
         if each != 0 {
-            no_rows(steps, h.layers, 0)
+            no_rows(steps, Counts { total, multi: 0 })
         } else if mode == 2 {
-            chosen(steps, closed, h)
+            self.chosen(steps)
         } else {
-            no_rows(steps, h.layers, h.layers - 1)
+            no_rows(
+                steps,
+                Counts {
+                    total,
+                    multi: total - 1,
+                },
+            )
         }
     }
 }
@@ -130,8 +147,7 @@ fn mode_idc<S: Steps>(steps: &mut S, h: Header, each: u32) -> Result<u32, Refusa
 pub struct Sets {
     pub each_layer_flag: u32,
     pub mode_idc: u32,
-    pub total: u32,
-    pub multi: u32,
+    pub counts: Counts,
     pub start: usize,
 }
 
@@ -144,12 +160,11 @@ impl Sets {
         let mode_idc = mode_idc(steps, h, each_layer_flag)?;
         steps.check(mode_idc <= 2, Refusal::ModeReserved)?;
         let start = steps.place();
-        let counts = Counts::of(steps, closed, h, each_layer_flag, mode_idc)?;
+        let counts = Layers { h, closed }.sets(steps, each_layer_flag, mode_idc)?;
         Ok(Sets {
             each_layer_flag,
             mode_idc,
-            total: counts.total,
-            multi: counts.multi,
+            counts,
             start,
         })
     }

@@ -38,10 +38,10 @@ impl Whole {
         let closed = vps_layers::layers(steps, h)?;
         let sets = Sets::of(steps, &closed, h)?;
         let ptls = steps.place();
-        let count = vps_ptl::ptl_section(steps, &h, sets.total)?;
+        let count = vps_ptl::ptl_section(steps, &h, sets.counts.total)?;
         let olss = steps.place();
-        crate::ols_section(steps, count, sets.total)?;
-        let buffers = Buffers::of(steps, h, sets.each_layer_flag, sets.multi)?;
+        crate::ols_section(steps, count, sets.counts.total)?;
+        let buffers = Buffers::of(steps, h, sets.each_layer_flag, sets.counts.multi)?;
         let extension_flag = steps.general(Whole::EXTENSION_FLAG, 1)?;
         let extension = steps.place();
         Ok(Whole {

@@ -2,11 +2,11 @@
 use Rattle.std.proofs.Common.{rules}
 use Rattle.vps_definition.specs.Vps.{rows_section}
 use Rattle.vps_sets.specs.Sets.{goes_chosen}
-use Rattle.vps_sets.proofs.chosen.Goals as goal
+use Rattle.vps_sets.proofs.Layers.chosen.Goals as goal
 
 pub returns-in_err-count : goal.returns-in_err-count
 unfolding rows_section
-returns-in_err-count g c = let L = g.S.Steps.laws in λ refs K. search (rules, L.goes_stop)
+returns-in_err-count g c = let L = g.S.Steps.laws in search (rules, L.goes_stop)
 
 pub returns : goal.returns
-returns g c = λ refs K. goes_chosen g.S.Steps.laws _ _ K c.in_ok-count.ensures.goes c.rows.ensures
+returns g c = goes_chosen g.S.Steps.laws _ _ _ _ c.in_ok-count.ensures.goes c.rows.ensures
