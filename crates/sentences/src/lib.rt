@@ -3,10 +3,10 @@
 
 ghost use Rattle.std.specs.Prelude.{◌↔◌, ◌≡◌, [], ◌∷◌, map, IsTrue, MatchOption};
 ghost use Rattle.refusals.specs.Lent.{lent, output_after};
+ghost use Rattle.refusals.specs.Refusals.{answer_of};
 ghost use Rattle.texts.specs.Adds.{Adds};
 ghost use Rattle.sentences.specs.Sentences.{words_of, blank, sentence_of, number_of};
 ghost use Rattle.sentences.specs.Laws.{InTable};
-ghost use Rattle.sentences.specs.Answers.{worded_answer};
 
 use refusals::Refusal;
 use texts::Text;
@@ -85,9 +85,8 @@ pub fn put_sentence(text: &mut Text, number: u32)
 
 // A refusal's sentence into a lent output: how many bytes were written; those behind them are as before. A refusal leaves the output
 // as it was. 0 and numbers past the table have the empty sentence.
-// As it is (1): the error is the refusal's number, which C is given.
-pub fn sentence(number: u32, output: &mut [u8]) -> Result<usize, u32>
-    ensures result_value { worded_answer result ≡ lent (sentence_of number) output.old }
+pub fn sentence(number: u32, output: &mut [u8]) -> Result<usize, Refusal>
+    ensures result_value { answer_of result ≡ lent (sentence_of number) output.old }
     ensures output_after { output.new ≡ output_after (sentence_of number) output.old }
 {
     let mut room = [0u8; SENTENCE_BYTES];
@@ -95,7 +94,7 @@ pub fn sentence(number: u32, output: &mut [u8]) -> Result<usize, u32>
     put_sentence(&mut text, number);
     let said = text.so_far();
     if output.len() < said.len() {
-        return Err(Refusal::OutputTooShort.number());
+        return Err(Refusal::OutputTooShort);
     }
     output[..said.len()].copy_from_slice(said);
     Ok(said.len())
