@@ -113,5 +113,5 @@ pub extern "C" fn vps_sentence(number: u32, output: &mut [u8], length: &mut u64)
 pub extern "C" fn vps_sentence_number(sentence: &[u8]) -> u32
     ensures { result ≡ number_of sentence.now }
 {
-    sentences::sentence_number(sentence)
+    sentences::sentence_number(sentence).map_or(0, Refusal::number)
 }
