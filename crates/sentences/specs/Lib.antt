@@ -2,4 +2,4 @@ pub mod Sentences
 pub mod Words
 pub mod Laws
 pub mod Cases
-pub mod Answers
+pub mod Named

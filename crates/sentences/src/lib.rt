@@ -1,12 +1,13 @@
 // The sentence of each refusal, three words, and the number back from the sentence alone.
 #![tactic(auto)]
 
-ghost use Rattle.std.specs.Prelude.{◌↔◌, ◌≡◌, [], ◌∷◌, map, IsTrue, MatchOption};
+ghost use Rattle.std.specs.Prelude.{◌↔◌, ◌≡◌, ◌∷◌, map, IsTrue};
 ghost use Rattle.refusals.specs.Lent.{lent, output_after};
+ghost use Rattle.refusals.specs.Refusals.{answer_of};
+ghost use Rattle.refusals.specs.Refusals as Refusals;
 ghost use Rattle.texts.specs.Adds.{Adds};
 ghost use Rattle.sentences.specs.Sentences.{words_of, blank, sentence_of, number_of};
-ghost use Rattle.sentences.specs.Laws.{InTable};
-ghost use Rattle.sentences.specs.Answers.{worded_answer};
+ghost use Rattle.sentences.specs.Named.{found_number};
 
 use refusals::Refusal;
 use texts::Text;
@@ -53,14 +54,11 @@ const ROWS: [[&'static str; 3]; LAST_NUMBER as usize] = [
 // Room for every sentence: three words of at most 15 bytes and two blanks.
 const SENTENCE_BYTES: usize = 47;
 
-// The words of a refusal; 0 and numbers past the table have none.
-fn words(number: u32) -> Option<&'static [&'static str; 3]>
-    ensures { MatchOption result (words_of number ≡ []) (λ row. InTable number × (map (λ word. word.now) row.now ≡ words_of number)) }
+// The words of a refusal.
+fn words(refusal: Refusal) -> &'static [&'static str; 3]
+    ensures { map (λ word. word.now) result.now ≡ words_of (Refusals.number_of refusal) }
 {
-    match number {
-        1..=LAST_NUMBER => Some(&ROWS[number as usize - 1]),
-        _ => None,
-    }
+    &ROWS[refusal.number() as usize - 1]
 }
 
 // A blank, and a word behind it.
@@ -71,23 +69,29 @@ fn put_next_word(text: &mut Text, word: &str)
     text.put(word.as_bytes());
 }
 
-// A refusal's sentence, as much of it as there is room for; nothing for 0 and numbers past the table.
-pub fn put_sentence(text: &mut Text, number: u32)
-    ensures { Adds (sentence_of number) text.old text.new }
+// A refusal's sentence, as much of it as there is room for.
+pub fn put_words(text: &mut Text, refusal: Refusal)
+    ensures { Adds (sentence_of (Refusals.number_of refusal)) text.old text.new }
 {
-    let Some([place, field, fault]) = words(number) else {
-        return;
-    };
+    let [place, field, fault] = words(refusal);
     text.put(place.as_bytes());
     put_next_word(text, field);
     put_next_word(text, fault);
 }
 
+// The sentence of a refusal's number, as much of it as there is room for; nothing for 0 and numbers past the table.
+pub fn put_sentence(text: &mut Text, number: u32)
+    ensures { Adds (sentence_of number) text.old text.new }
+{
+    if let Ok(refusal) = Refusal::try_from(number) {
+        put_words(text, refusal);
+    }
+}
+
 // A refusal's sentence into a lent output: how many bytes were written; those behind them are as before. A refusal leaves the output
 // as it was. 0 and numbers past the table have the empty sentence.
-// As it is (1): the error is the refusal's number, which C is given.
-pub fn sentence(number: u32, output: &mut [u8]) -> Result<usize, u32>
-    ensures result_value { worded_answer result ≡ lent (sentence_of number) output.old }
+pub fn sentence(number: u32, output: &mut [u8]) -> Result<usize, Refusal>
+    ensures result_value { answer_of result ≡ lent (sentence_of number) output.old }
     ensures output_after { output.new ≡ output_after (sentence_of number) output.old }
 {
     let mut room = [0u8; SENTENCE_BYTES];
@@ -95,7 +99,7 @@ pub fn sentence(number: u32, output: &mut [u8]) -> Result<usize, u32>
     put_sentence(&mut text, number);
     let said = text.so_far();
     if output.len() < said.len() {
-        return Err(Refusal::OutputTooShort.number());
+        return Err(Refusal::OutputTooShort);
     }
     output[..said.len()].copy_from_slice(said);
     Ok(said.len())
@@ -111,15 +115,14 @@ fn is_sentence(bytes: &[u8], number: u32) -> bool
     text.so_far() == bytes
 }
 
-// The number whose sentence the bytes are, or 0.
-// As it is (1): C is given this number, and 0 is no refusal's.
-pub fn sentence_number(bytes: &[u8]) -> u32
-    ensures { result ≡ number_of bytes.now }
+// The refusal whose sentence the bytes are.
+pub fn sentence_number(bytes: &[u8]) -> Option<Refusal>
+    ensures { found_number result ≡ number_of bytes.now }
 {
     for number in 1..=LAST_NUMBER {
         if is_sentence(bytes, number) {
-            return number;
+            return Refusal::try_from(number).ok();
         }
     }
-    0
+    None
 }

@@ -23,7 +23,7 @@ fn is_stored(number: u32, bytes: &[u8], output: &mut [u8]) -> bool {
     match sentence(number, output) {
         Ok(n) => n == bytes.len() && holds(output, bytes),
         Err(refusal) => {
-            refusal == Refusal::OutputTooShort.number()
+            refusal == Refusal::OutputTooShort
                 && output.len() < bytes.len()
                 && holds(output, b"")
         }
@@ -44,7 +44,7 @@ fn is_stored_always(number: u32, bytes: &[u8]) -> bool {
 // Whether no proper beginning gives a number, the empty one included.
 fn no_beginning(bytes: &[u8]) -> bool {
     for n in 0..bytes.len() {
-        if sentence_number(&bytes[..n]) != 0 {
+        if sentence_number(&bytes[..n]).is_some() {
             return false;
         }
     }
@@ -60,7 +60,7 @@ fn no_other_byte(bytes: &mut [u8], at: usize) -> bool
     let byte = bytes[at];
     for change in 1..=u8::MAX {
         bytes[at] = byte ^ change;
-        if sentence_number(bytes) != 0 {
+        if sentence_number(bytes).is_some() {
             return false;
         }
     }
@@ -85,12 +85,12 @@ fn no_neighbour(bytes: &[u8]) -> bool {
     }
     let mut text = [b' '; ROOM];
     text[..count].copy_from_slice(bytes);
-    no_change(&mut text[..count]) && sentence_number(&text[..count + 1]) == 0
+    no_change(&mut text[..count]) && sentence_number(&text[..count + 1]).is_none()
 }
 
 pub fn is_same(number: u32, bytes: &[u8]) -> bool {
     is_stored_always(number, bytes)
-        && sentence_number(bytes) == number
+        && sentence_number(bytes).map(Refusal::number) == Some(number)
         && no_beginning(bytes)
         && no_neighbour(bytes)
 }

@@ -71,3 +71,7 @@ tells_success {before = before} e = record { numbered = ap answer_number e; stor
 
 pub tells_refusal : {x : Answer ℕ} {before k : ℕ} → refusal k ≡ x → Tells x before k before
 tells_refusal {before = before} e = record { numbered = ap answer_number e; stored = ap (λ (y : Answer ℕ). stored_after y before) e }
+
+-- what an answer's equal says
+pub tells_same : {x y : Answer ℕ} {before k after : ℕ} → x ≡ y → Tells x before k after → Tells y before k after
+tells_same {before = before} e t = record { numbered = t.numbered ∙ ap answer_number e; stored = t.stored ∙ ap (λ (z : Answer ℕ). stored_after z before) e }

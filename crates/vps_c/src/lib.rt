@@ -4,6 +4,7 @@
 
 ghost use Rattle.std.specs.Prelude.{◌≡◌, ◌+◌};
 ghost use Rattle.refusals.specs.Lent.{lent, output_after};
+ghost use Rattle.refusals.specs.Refusals.{answer_of};
 ghost use Rattle.stuffing.specs.Stuffing.{unstuff, stuff};
 ghost use Rattle.sentences.specs.Sentences.{sentence_of, number_of};
 ghost use Rattle.vps_definition.specs.Writing.{write_record};
@@ -41,19 +42,27 @@ pub extern "C" fn vps_parse(
     }
 }
 
+// An answer by its number: success is 0 and stores what it has; a refusal stores nothing.
+#[inline]
+fn tell(answer: Result<usize, Refusal>, told: &mut u64) -> u32
+    ensures { Tells (answer_of answer) told.old result told.new }
+{
+    match answer {
+        Ok(has) => {
+            *told = has as u64;
+            0
+        }
+        Err(refusal) => refusal.number(),
+    }
+}
+
 // A record, written as a unit into a lent output. Success stores how many bytes were written; a refusal stores nothing.
 #[unsafe(no_mangle)]
 pub extern "C" fn vps_write(record: &[u32], output: &mut [u8], written: &mut u64) -> u32
     ensures tells { Tells (write_of output.old (write_record «record».now)) written.old result written.new }
     ensures output_after { output.new ≡ output_of output.old (write_record «record».now) }
 {
-    match vps_writer::write_vps_nal(record, output) {
-        Ok(bytes) => {
-            *written = bytes as u64;
-            0
-        }
-        Err(not_written) => not_written.number(),
-    }
+    tell(vps_writer::write_vps_nal(record, output), written)
 }
 
 // A section of a record: where its part starts, and how many numbers it has. Of a list that is not well formed, and of a number
@@ -76,29 +85,17 @@ pub extern "C" fn vps_ebsp_to_rbsp(source: &[u8], output: &mut [u8], length: &mu
     ensures tells { Tells (lent (unstuff source.now) output.old) length.old result length.new }
     ensures output_after { output.new ≡ output_after (unstuff source.now) output.old }
 {
-    match stuffing::ebsp_to_rbsp(source, output) {
-        Ok(left) => {
-            *length = left as u64;
-            0
-        }
-        Err(refusal) => refusal.number(),
-    }
+    tell(stuffing::ebsp_to_rbsp(source, output), length)
 }
 
 // Stuffing added to an RBSP, into a lent output. Success stores the length of what was made; a refusal stores nothing.
-// As it is (2): each is an exported C name of its own, and C has no generic function.
+// As it is (2): the names are C's; the common body is `tell`.
 #[unsafe(no_mangle)]
 pub extern "C" fn vps_rbsp_to_ebsp(source: &[u8], output: &mut [u8], length: &mut u64) -> u32
     ensures tells { Tells (lent (stuff source.now) output.old) length.old result length.new }
     ensures output_after { output.new ≡ output_after (stuff source.now) output.old }
 {
-    match stuffing::rbsp_to_ebsp(source, output) {
-        Ok(made) => {
-            *length = made as u64;
-            0
-        }
-        Err(refusal) => refusal.number(),
-    }
+    tell(stuffing::rbsp_to_ebsp(source, output), length)
 }
 
 // The sentence of a refusal, into a lent output; the empty one of every number that is no refusal's. Success stores its length; a
@@ -108,13 +105,7 @@ pub extern "C" fn vps_sentence(number: u32, output: &mut [u8], length: &mut u64)
     ensures tells { Tells (lent (sentence_of number) output.old) length.old result length.new }
     ensures output_after { output.new ≡ output_after (sentence_of number) output.old }
 {
-    match sentences::sentence(number, output) {
-        Ok(bytes) => {
-            *length = bytes as u64;
-            0
-        }
-        Err(refusal) => refusal,
-    }
+    tell(sentences::sentence(number, output), length)
 }
 
 // The number of the refusal whose sentence this is, or 0. Nothing is refused.
@@ -122,5 +113,5 @@ pub extern "C" fn vps_sentence(number: u32, output: &mut [u8], length: &mut u64)
 pub extern "C" fn vps_sentence_number(sentence: &[u8]) -> u32
     ensures { result ≡ number_of sentence.now }
 {
-    sentences::sentence_number(sentence)
+    sentences::sentence_number(sentence).map_or(0, Refusal::number)
 }

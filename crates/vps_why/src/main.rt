@@ -3,12 +3,14 @@
 
 ghost use Rattle.std.specs.Prelude.{◌≡◌, length};
 ghost use Rattle.io.specs.Counts.{IsPrefixLen};
+ghost use Rattle.refusals.specs.Refusals.{number_of};
 ghost use Rattle.lists.specs.Stored.{overlaid};
 ghost use Rattle.texts.specs.Adds.{Adds};
 ghost use Rattle.vps_reader.specs.Answers.{parsed_answer};
 ghost use Rattle.vps_why.specs.Why.{refused_line, parsed_line, why};
 
-use sentences::put_sentence;
+use refusals::Refusal;
+use sentences::put_words;
 use text_numbers::put_decimal;
 use texts::Text;
 use vps_reader::{NotParsed, Parsed, parse_vps};
@@ -28,12 +30,12 @@ const WORK_BYTES: usize = 65535;
 const LINE_BYTES: usize = 69;
 
 // The number of a refusal and its sentence.
-fn put_refused(text: &mut Text, number: u32)
-    ensures { Adds (refused_line number) text.old text.new }
+fn put_refused(text: &mut Text, refusal: Refusal)
+    ensures { Adds (refused_line (number_of refusal)) text.old text.new }
 {
-    put_decimal(text, number as u64);
+    put_decimal(text, refusal.number() as u64);
     text.put(b" ");
-    put_sentence(text, number);
+    put_words(text, refusal);
     text.put(b"\n");
 }
 
@@ -44,7 +46,7 @@ fn put_answer(text: &mut Text, answer: Result<Parsed, NotParsed>)
     match answer {
         Ok(_) => text.put(b"accepted\n"),
         Err(NotParsed::RecordTooShort(_)) => text.put(b"accepted\n"),
-        Err(NotParsed::Refused(refusal)) => put_refused(text, refusal.number()),
+        Err(NotParsed::Refused(refusal)) => put_refused(text, refusal),
     }
 }
 

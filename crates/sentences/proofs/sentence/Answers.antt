@@ -7,7 +7,7 @@ pub returns-then-output-said : goal.returns-then-output-said
 returns-then-output-said c =
     let said = c.so_far-said.ensures ∙ said_whole c.args.number c.put_sentence.ensures c.at-text.ensures.place (omega (arith, ap length c.at-text.ensures.bytes)) in
     let none = too_short _ _ _ said c.if-output-said.true in
-    record { result_value = rw c.number.ensures none.0; output_after = none.1 }
+    record { result_value = none.0; output_after = none.1 }
 
 pub returns : goal.returns
 returns c =

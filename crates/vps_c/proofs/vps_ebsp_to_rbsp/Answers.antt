@@ -1,12 +1,6 @@
--- `vps_ebsp_to_rbsp` meets its contract, case by case of the answer.
-use mathlib.Core.Path.{sym, ap, ◌∙◌}
-use Rattle.refusals.specs.Answer.Answer.{refusal}
-use Rattle.refusals.specs.Refusals.{answer_of}
-use Rattle.vps_c.specs.Calls.{tells_success, tells_refusal}
+-- `vps_ebsp_to_rbsp` meets its contract: the answer is told.
+use Rattle.vps_c.specs.Calls.{tells_same}
 use Rattle.vps_c.proofs.vps_ebsp_to_rbsp.Goals as goal
 
-pub returns-in-Ok : goal.returns-in-Ok
-returns-in-Ok c = record { tells = tells_success (sym (ap answer_of c.in-Ok.is) ∙ c.ebsp_to_rbsp.ensures.answered); output_after = c.ebsp_to_rbsp.ensures.left }
-
-pub returns-in-Err : goal.returns-in-Err
-returns-in-Err c = record { tells = tells_refusal (ap refusal c.number.ensures ∙ sym (ap answer_of c.in-Err.is) ∙ c.ebsp_to_rbsp.ensures.answered); output_after = c.ebsp_to_rbsp.ensures.left }
+pub returns : goal.returns
+returns c = record { tells = tells_same c.ebsp_to_rbsp.ensures.answered c.tell.ensures; output_after = c.ebsp_to_rbsp.ensures.left }

@@ -6,7 +6,7 @@ use Rattle.texts.specs.Adds.{adds_same}
 use Rattle.vps_reader.specs.Answers.{parsed_answer}
 use Rattle.vps_reader.specs.declared.parsed.Parsed.{Parsed}
 use Rattle.vps_reader.specs.declared.parsed.NotParsed.{NotParsed}
-use Rattle.vps_why.specs.Why.{refused_line, parsed_line}
+use Rattle.vps_why.specs.Why.{parsed_line}
 use Rattle.vps_why.proofs.put_answer.Goals as goal
 
 pub returns-in-Ok : goal.returns-in-Ok
@@ -25,4 +25,4 @@ unfolding parsed_line
 returns-in-Err-Refused c =
     let refused = rw c.in-Err-Refused.is at c.in-Err-Refused.field-0-is in
     let is = c.in-Err-Refused.is ∙ ap (λ (e : NotParsed). let r : Result Parsed NotParsed = Err e in r) refused in
-    adds_same (ap refused_line c.number.ensures ∙ sym (ap (λ (a : Result Parsed NotParsed). parsed_line (parsed_answer a)) is)) c.put_refused.ensures
+    adds_same (sym (ap (λ (a : Result Parsed NotParsed). parsed_line (parsed_answer a)) is)) c.put_refused.ensures
