@@ -10,8 +10,8 @@ use Rattle.bits.specs.FieldLaws.{field_lt}
 use Rattle.bits.specs.Code.Taken.{taken, refused}
 use Rattle.bits.specs.Reading.{read_code}
 use Rattle.vps_definition.specs.Syntax.{Syntax, numbers, Outcome, run}
-use Rattle.vps_definition.specs.Syntax.Syntax.{late, refuse, done}
-use Rattle.vps_definition.specs.Words.{u, u_minus1, ue, ue_minus1, inferred, nothing, aligned}
+use Rattle.vps_definition.specs.Syntax.Syntax.{field, code, late, refuse, done}
+use Rattle.vps_definition.specs.Words.{inferred, nothing, aligned}
 use Rattle.vps_definition.specs.Syntax.Token.{number}
 use Rattle.vps_definition.specs.Syntax.Outcome.{refused as turned_away}
 use Rattle.vps_laws.specs.Inversion.{Reads, reads_run, read_late_as}
@@ -98,21 +98,13 @@ unfolding run
 meets_refuse {s = s} = meets_refused {at = s.at} refl (record { bytes = refl; name = refl; at' = refl; n' = refl; rec' = refl })
 
 -- ── Words are tables whose first step finds room ──────────────────────
-pub room_u : (w : ℕ) (s : List ℕ) (at n : ℕ) → Fits (u w) s at n → Room at n
-unfolding Fits u
-room_u w s at n f = f.0
+pub room_field : (w plus : ℕ) (s : List ℕ) (at n : ℕ) → Fits (field w plus done) s at n → Room at n
+unfolding Fits
+room_field w plus s at n f = f.0
 
-pub room_u_minus1 : (w : ℕ) (s : List ℕ) (at n : ℕ) → Fits (u_minus1 w) s at n → Room at n
-unfolding Fits u_minus1
-room_u_minus1 w s at n f = f.0
-
-pub room_ue : (s : List ℕ) (at n : ℕ) → Fits ue s at n → Room at n
-unfolding Fits ue
-room_ue s at n f = f.0
-
-pub room_ue_minus1 : (s : List ℕ) (at n : ℕ) → Fits ue_minus1 s at n → Room at n
-unfolding Fits ue_minus1
-room_ue_minus1 s at n f = f.0
+pub room_code : (plus : ℕ) (s : List ℕ) (at n : ℕ) → Fits (code plus done) s at n → Room at n
+unfolding Fits
+room_code plus s at n f = f.0
 
 pub room_inferred : (v : ℕ) (s : List ℕ) (at n : ℕ) → Fits (inferred v) s at n → Room at n
 unfolding Fits inferred

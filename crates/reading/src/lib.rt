@@ -86,12 +86,37 @@ impl<'a> Reading<'a> {
 }
 
 impl Reading<'_> {
-    ghost use Rattle.std.specs.Prelude.{ℕ, ◌≡◌, ◌<◌, ◌≤◌, List, Ok};
-    ghost use Rattle.bits.specs.Bits.{ones_at};
+    ghost use Rattle.std.specs.Prelude.{ℕ, ◌≡◌, ◌<◌, ◌≤◌, ◌+◌, ◌^◌, List, Ok, IfOk};
+    ghost use Rattle.bits.specs.Bits.{field_width, ones_at};
+    ghost use Rattle.vps_definition.specs.Syntax.Syntax.{field, code, done};
     ghost use Rattle.vps_definition.specs.ProfileTierLevel.{reversed};
     ghost use Rattle.reading.specs.Fits.{limit};
     ghost use Rattle.reading.specs.Meets.{Meets};
     ghost use Rattle.reading.specs.Reversed.{falling_at};
+
+    // The next field, kept with `plus` added to it.
+    #[inline]
+    fn field(&mut self, plus: u32, width: u32) -> Result<u32, Refusal>
+        requires { 2 ^ field_width width + plus ≤ 4294967296 }
+        ensures goes { Meets ℕ (field (field_width width) plus done) self.old result self.new }
+        ensures within { IfOk result (λ v. v < 2 ^ field_width width + plus) }
+    {
+        let v = self.pass(width)? + plus;
+        self.push(v);
+        Ok(v)
+    }
+
+    // The next code, likewise.
+    #[inline]
+    fn code_number(&mut self, plus: u32) -> Result<u32, Refusal>
+        requires { plus ≤ 1 }
+        ensures { Meets ℕ (code plus done) self.old result self.new }
+    {
+        self.reach()?;
+        let v = self.code()? + plus;
+        self.push(v);
+        Ok(v)
+    }
 
     // How many of the next bits are ones.
     fn ones(&self, count: u32) -> u32
@@ -138,29 +163,19 @@ impl Steps for Reading<'_> {
     }
 
     fn u(&mut self, width: u32) -> Result<u32, Refusal> {
-        let v = self.pass(width)?;
-        self.push(v);
-        Ok(v)
+        self.field(0, width)
     }
 
     fn u_minus1(&mut self) -> Result<u32, Refusal> {
-        let v = self.pass(8)? + 1;
-        self.push(v);
-        Ok(v)
+        self.field(1, 8)
     }
 
     fn ue(&mut self) -> Result<u32, Refusal> {
-        self.reach()?;
-        let v = self.code()?;
-        self.push(v);
-        Ok(v)
+        self.code_number(0)
     }
 
     fn ue_minus1(&mut self) -> Result<u32, Refusal> {
-        self.reach()?;
-        let v = self.code()? + 1;
-        self.push(v);
-        Ok(v)
+        self.code_number(1)
     }
 
     fn infer(&mut self, v: u32) -> Result<u32, Refusal> {

@@ -20,15 +20,13 @@ use writing::Writing;
 fn has_numbers(numbers: &[u32], list: &[usize]) -> bool
     ensures { Has numbers.now list.now result }
 {
-    if numbers.len() < list.len() {
+    let Some(first) = numbers.get(..list.len()) else {
         return false;
-    }
-    for (v, number) in numbers.iter().zip(list) {
-        if *v as usize != *number {
-            return false;
-        }
-    }
-    true
+    };
+    first
+        .iter()
+        .zip(list)
+        .all(|(v, number)| *v as usize == *number)
 }
 
 // Whether extension bits may stand under a flag.

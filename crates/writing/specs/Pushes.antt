@@ -1,7 +1,10 @@
 -- What the parts of a step owe: whether bits may be pushed, which number is next, and that bits are pushed.
 use Rattle.std.specs.Prelude.{ℕ, ◌+◌, ◌≤◌, ◌<◌, ◌≡◌, List, ◌++◌, Bool, true, false, length, get_or, Result, Ok, Err}
+use Rattle.std.proofs.Common.{MutBor}
 use Rattle.refusals.specs.declared.refusal.Refusal.{Refusal}
 use Rattle.refusals.specs.declared.refusal.Refusal.TheVariants.{NotWellFormed}
+use Rattle.bit_sink.specs.declared.Sink.{Sink}
+use Rattle.bit_sink.specs.Puts.{SameOutput, Puts}
 use Rattle.writing.specs.declared.Writing.{Writing}
 use Rattle.writing.specs.Emits.{most_bits, Ready, Stays}
 
@@ -28,6 +31,10 @@ HasNext plus s (Err e) = NoNext plus s e
 pub record Pushed (fits : Bool) (b : List ℕ) (s s' : Writing) : Type 0 where
   pub fitting : fits ≡ true
   pub ready : (start : ℕ) (d lent : List ℕ) → Ready start d s lent → Ready start (d ++ b) s' lent
+
+-- a step of a sink, which puts those bits into the same output
+abbrev pub StepPuts : (MutBor Sink → MutBor Sink → Type 0) → Bool → List ℕ → Type 0
+StepPuts step fits b = (x y : MutBor Sink) → step x y → SameOutput x.now y.now × (fits ≡ true → Puts b x.now y.now)
 
 -- unless the value doesn't fit, or there get to be too many
 abbrev pub SaysPushed : Bool → List ℕ → Writing → Result (Unit {0}) Refusal → Writing → Type 0

@@ -1,6 +1,6 @@
 -- Fields coded last first: written one by one, and then passed in the record.
-use Rattle.std.specs.Prelude.{ℕ, zero, suc, ◌+◌, ◌-◌, ◌*◌, ◌^◌, ◌≤◌, ◌<◌, ◌≡◌, refl, List, [], ◌∷◌, ◌++◌, ltb, length, get_or, drop, Result, Ok, Err}
-use Rattle.std.proofs.Common.{sym, ap, ◌∙◌, subst, append_assoc, append-nil, add-one, arith, ltb-true, length-append}
+use Rattle.std.specs.Prelude.{ℕ, zero, suc, ◌+◌, ◌-◌, ◌*◌, ◌^◌, ◌≤◌, ◌<◌, ◌≡◌, refl, List, [], ◌∷◌, ◌++◌, ltb, length, get_or, drop, take, Result, Ok, Err}
+use Rattle.std.proofs.Common.{sym, ap, ◌∙◌, subst, append_assoc, append-nil, add-one, arith, ltb-true, length-append, length-take, take-suc}
 use Rattle.refusals.specs.declared.refusal.Refusal.{Refusal}
 use Rattle.refusals.specs.declared.refusal.Refusal.TheVariants.{NotWellFormed}
 use Rattle.bits.specs.Bits.{bits_of}
@@ -65,6 +65,28 @@ behind_more : (v : ℕ) (t : List ℕ) (r : Result (List ℕ) Refusal) → behin
 unfolding behind
 behind_more v t (Ok l) = ap Ok (append_assoc l (v ∷ []) t)
 behind_more v t (Err e) = refl
+
+-- what the last of numbers is, and those before it
+snoc : (a b : List ℕ) (x y : ℕ) → a ++ (x ∷ []) ≡ b ++ (y ∷ []) → (a ≡ b) × (x ≡ y)
+snoc [] [] x y e = (refl, cc)
+snoc [] (z ∷ b) x y e = absurd (omega (arith, ap length e, length-append b (y ∷ [])))
+snoc (z ∷ a) [] x y e = absurd (omega (arith, ap length e, length-append a (x ∷ [])))
+snoc (z ∷ a) (w ∷ b) x y e =
+    let h : z ≡ w = cc in
+    let t : a ++ (x ∷ []) ≡ b ++ (y ∷ []) = cc in
+    let S = snoc a b x y t in
+    ((λ k. h k ∷ S.0 k), S.1)
+
+module _ (l rest : List ℕ) (x n i : ℕ) (long : n ≤ length l) (e : take (n - i) l ≡ rest ++ (x ∷ [])) where
+  pub last_within : i < n
+  last_within = omega (arith, ap length e, length-append rest (x ∷ []), length-take (n - i) l)
+
+  pub last_is : (rest ≡ take (n - (i + 1)) l) × (x ≡ get_or l (n - 1 - i) 0)
+  last_is =
+      let q : suc (n - (i + 1)) ≡ n - i = omega (arith, last_within) in
+      let p : n - (i + 1) ≡ n - 1 - i = omega arith in
+      let S = snoc (take (n - (i + 1)) l) rest (get_or l (n - (i + 1)) 0) x (sym (take-suc l (n - (i + 1)) 0 (omega (arith, long, last_within))) ∙ ap (λ (k : ℕ). take k l) q ∙ e) in
+      (sym S.0, sym S.1 ∙ ap (λ (k : ℕ). get_or l k 0) p)
 
 -- i of n fields are written, those that stand last
 pub record Falling (n w : ℕ) (s : Writing) (i : ℕ) (s₁ : Writing) (total : ℕ) : Type 0 where

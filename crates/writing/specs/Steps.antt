@@ -1,12 +1,13 @@
 -- What the steps rest on, over plain values: one lemma for each way that a step goes.
-use Rattle.std.specs.Prelude.{ℕ, ◌+◌, ◌-◌, ◌/◌, ◌^◌, ◌≤◌, ◌<◌, ◌≡◌, List, [], ◌∷◌, ◌++◌, Bool, true, false, ltb, leb, eqb, length, get_or, drop, replicate, Ok, Err}
+use Rattle.std.specs.Prelude.{ℕ, ◌+◌, ◌-◌, ◌/◌, ◌^◌, ◌≤◌, ◌<◌, ◌≡◌, List, [], ◌∷◌, ◌++◌, Bool, true, false, ltb, leb, eqb, length, get_or, drop, replicate, Result, Ok, Err}
 use Rattle.std.proofs.Math.Path.{refl}
-use Rattle.std.proofs.Common.{sym, ap, ◌∙◌, subst, append-nil, one-mul, le-div_iff_mul-le, add-one, add-zero, arith, le-leb, ltb-true, ltb-false, eq-eqb, ne_eqb, drop_of_length-le, length-append, pow_pos, drop-cons}
+use Rattle.std.proofs.Common.{sym, ap, ◌∙◌, subst, append-nil, one-mul, le-div_iff_mul-le, add-one, add-zero, arith, le-leb, lt-ltb, ltb-true, ltb-false, eq-eqb, ne_eqb, drop_of_length-le, length-append, pow_pos, drop-cons}
 use Rattle.std.proofs.Math.Nat.{div-eq_of_lt}
 use Rattle.std.proofs.lemmas.Bool.{lt-leb}
 use Rattle.refusals.specs.declared.refusal.Refusal.{Refusal}
 use Rattle.refusals.specs.declared.refusal.Refusal.TheVariants.{NotWellFormed}
-use Rattle.bits.specs.Bits.{bits_of, to_boundary}
+use Rattle.bits.specs.Bits.{field_width, bits_of, to_boundary}
+use Rattle.bits.specs.FieldLaws.{bits_of_zero}
 use Rattle.bits.specs.Code.{code_of}
 use Rattle.bit_sink.specs.declared.Sink.{Sink}
 use Rattle.bit_sink.specs.declared.SoFar.{SoFar}
@@ -184,6 +185,12 @@ late_emits w v find r x e at =
     guard_is (ltb (find r x) (2 ^ w)) (ap (wrote (find r x) [] x) (append-nil (bits_of w (find r x)))) ∙ ap (λ (n : ℕ). guarded (ltb n (2 ^ w)) (wrote n [] x (bits_of w n))) e
 
 -- zeros to the boundary
+pub boundary_width : {more : ℕ} (at : ℕ) → more ≡ to_boundary at → field_width more ≡ more
+boundary_width {more} at e = rw (lt-ltb more 32 (omega (arith, e))) refl
+
+boundary_zeros : {more : ℕ} (at : ℕ) → more ≡ to_boundary at → bits_of (field_width more) 0 ≡ replicate (to_boundary at) 0
+boundary_zeros {more} at e = ap (λ (k : ℕ). bits_of k 0) (boundary_width at e) ∙ bits_of_zero more ∙ ap (λ (k : ℕ). replicate k 0) e
+
 pub aligned_emits : (n : ℕ) (r x : List ℕ) (here at : ℕ) → at ≡ here → emit (aligned n) r x at ≡ wrote tt [] x (replicate (to_boundary here) 0)
 unfolding emit putting aligned nothing
 aligned_emits n r x here at e = ap (wrote tt [] x) (append-nil (replicate (to_boundary at) 0) ∙ ap (λ (k : ℕ). replicate (to_boundary k) 0) e)
@@ -271,6 +278,14 @@ module _ {s : Writing} where
   pub align_refused : {s₁ : Writing} {x : Refusal} (n : ℕ) → Pushes true (replicate (to_boundary s.so_far.bits) 0) s (Err x) s₁ → Emits (aligned n) s (Err x) s₁
   unfolding numbers
   align_refused n P = emits_refused tt [] (λ at i. rw (add-zero s.c) (aligned_emits n s.rec.now (drop s.c s.rec.now) s.so_far.bits at i)) P
+
+  -- zeros of a width that leads to the boundary
+  pub align_goes : {s₁ : Writing} {more : ℕ} (n : ℕ) (r : Result (Unit {0}) Refusal) → more ≡ to_boundary s.so_far.bits → Pushes true (bits_of (field_width more) 0) s r s₁ → Emits (aligned n) s r s₁
+  align_goes {s₁} n r e P = go r (subst (λ (b : List ℕ). Pushes true b s r s₁) (boundary_zeros s.so_far.bits e) P)
+    where
+      go : (r : Result (Unit {0}) Refusal) → Pushes true (replicate (to_boundary s.so_far.bits) 0) s r s₁ → Emits (aligned n) s r s₁
+      go (Ok u) P = align_sent n P
+      go (Err x) P = align_refused n P
 
   -- a condition that doesn't hold
   pub check_fails : (n : ℕ) → Emits (check false n) s (Err NotWellFormed) s

@@ -7,7 +7,7 @@ ghost use Rattle.bits.specs.Code.{code_of};
 ghost use Rattle.bit_sink.specs.Holds.{limit};
 ghost use Rattle.vps_definition.specs.Syntax.Syntax.{field, code, late, done};
 ghost use Rattle.writing.specs.Emits.{Ready, Stays, Emits};
-ghost use Rattle.writing.specs.Pushes.{Takes, HasNext, Pushes};
+ghost use Rattle.writing.specs.Pushes.{Takes, HasNext, StepPuts, Pushes};
 ghost use Rattle.writing.specs.Marked.{Marked, laws};
 
 use bit_sink::{Sink, SoFar};
@@ -90,7 +90,30 @@ impl<'a> Writing<'a> {
     fn rest(&self) -> &'a [u32]
         ensures { result.now ≡ drop self.now.c self.now.rec.now }
     {
-        self.rec.get(self.c..).unwrap_or(&[])
+        lists::behind(self.rec, self.c)
+    }
+
+    // Pushes so many bits, of a value that fits its word or not, by a step of a sink that the output is lent to.
+    #[inline]
+    fn push<F: FnOnce(&mut Sink)>(
+        &mut self,
+        fits: bool,
+        more: usize,
+        step: F,
+    ) -> Result<(), Refusal>
+        requires { F.IsAlwaysCallable step }
+        ensures { (b : List ℕ) → (fits ≡ true → more ≡ length b) → StepPuts (λ x y. F.post step x tt y) fits b → Pushes fits b self.old result self.new }
+    {
+        if !takes(fits, self.so_far.bits, more) {
+            return Err(Refusal::NotWellFormed);
+        }
+        let mut sink = Sink {
+            out: &mut *self.out,
+            so_far: self.so_far,
+        };
+        step(&mut sink);
+        self.so_far = sink.so_far;
+        Ok(())
     }
 
     // Pushes a field; the record's next number stays.
@@ -98,17 +121,11 @@ impl<'a> Writing<'a> {
     pub fn push_field(&mut self, value: u32, width: u32) -> Result<(), Refusal>
         ensures { Pushes (ltb value (2 ^ field_width width)) (bits_of (field_width width) value) self.old result self.new }
     {
-        let more = field_width(width) as usize;
-        if !takes(is_field(value, width), self.so_far.bits, more) {
-            return Err(Refusal::NotWellFormed);
-        }
-        let mut sink = Sink {
-            out: &mut *self.out,
-            so_far: self.so_far,
-        };
-        sink.put(value, width);
-        self.so_far = sink.so_far;
-        Ok(())
+        self.push(
+            is_field(value, width),
+            field_width(width) as usize,
+            |sink| sink.put(value, width),
+        )
     }
 
     // Pushes a code, likewise.
@@ -116,16 +133,9 @@ impl<'a> Writing<'a> {
     pub fn push_code(&mut self, value: u32) -> Result<(), Refusal>
         ensures { Pushes (ltb value 4294967295) (code_of value) self.old result self.new }
     {
-        if !takes(is_code(value), self.so_far.bits, code_bits(value)) {
-            return Err(Refusal::NotWellFormed);
-        }
-        let mut sink = Sink {
-            out: &mut *self.out,
-            so_far: self.so_far,
-        };
-        sink.put_code(value);
-        self.so_far = sink.so_far;
-        Ok(())
+        self.push(is_code(value), code_bits(value), |sink| {
+            sink.put_code(value)
+        })
     }
 
     // The record's next number, of a word that it has `plus` added to.
@@ -233,17 +243,8 @@ impl<'a> Steps for Writing<'a> {
     // The bits are zeros, whatever a reader refuses.
     #[inline]
     fn align(&mut self, _refusal: Option<Refusal>) -> Result<(), Refusal> {
-        let more = to_boundary(self.so_far.bits) as usize;
-        if !takes(true, self.so_far.bits, more) {
-            return Err(Refusal::NotWellFormed);
-        }
-        let mut sink = Sink {
-            out: &mut *self.out,
-            so_far: self.so_far,
-        };
-        sink.put_zeros_to_boundary();
-        self.so_far = sink.so_far;
-        Ok(())
+        let more = to_boundary(self.so_far.bits);
+        self.push(true, more as usize, |sink| sink.put(0, more))
     }
 
     // A record that a reader would refuse is not well formed.

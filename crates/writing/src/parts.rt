@@ -17,13 +17,11 @@ impl<'a> Writing<'a> {
     fn reverse(&mut self, count: u32, width: u32) -> Result<usize, Refusal>
         ensures { Sums count (field_width width) self.old result self.new }
     {
-        let numbers = self.rest();
-        if numbers.len() < count as usize {
+        let Some(numbers) = self.rest().get(..count as usize) else {
             return Err(Refusal::NotWellFormed);
-        }
+        };
         let mut sum = 0;
-        for i in 0..count {
-            let v = numbers[(count - 1 - i) as usize];
+        for &v in numbers.iter().rev() {
             self.push_field(v, width)?;
             sum += v as usize;
         }

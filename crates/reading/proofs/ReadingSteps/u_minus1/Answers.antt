@@ -1,21 +1,7 @@
--- The field is the bit reader's; eight bits and one more are stored.
-use Rattle.std.proofs.Common.{◌+◌, rules, sym, ap, arith}
-use Rattle.bits.specs.FieldLaws.{field_lt}
+-- The word is that of what is added to it.
 use Rattle.vps_definition.specs.Words.{u_minus1}
-use Rattle.vps_laws.specs.Inversion.{read_field_as}
-use Rattle.vps_laws.specs.Inversion.Reads.{read_done}
-use Rattle.reading.specs.Steps.{pushed, meets_not_passed, meets_number, room_u_minus1}
 use Rattle.reading.proofs.ReadingSteps.u_minus1.Goals as goal
-
-pub returns-in_err-v-clause-goes : goal.returns-in_err-v-clause-goes
-returns-in_err-v-clause-goes c = search (rules, meets_not_passed, room_u_minus1)
-
-pub overflow_add-v : goal.overflow_add-v
-overflow_add-v c = omega (arith, c.in_ok-v.ensures.value, field_lt c.args.self.now.bytes.now c.args.self.now.at 8)
 
 pub returns-clause-goes : goal.returns-clause-goes
 unfolding u_minus1
-returns-clause-goes c = meets_number (read_field_as (ap (λ v. v + 1) (sym c.in_ok-v.ensures.value)) read_done) (pushed _ c.in_ok-v.ensures.stands c.push.ensures)
-
-pub returns-clause-within : goal.returns-clause-within
-returns-clause-within c = omega (arith, c.in_ok-v.ensures.value, field_lt c.args.self.now.bytes.now c.args.self.now.at 8)
+returns-clause-goes c = c.field.ensures.goes

@@ -1,12 +1,8 @@
 -- The code is the sink's.
-use mathlib.Core.Path.{refl}
-use borrow.Author.Tests.{ltb-true}
-use Rattle.std.proofs.Common.{rules}
-use Rattle.writing.specs.Steps.{pushes_none, pushes_bits}
+use Rattle.std.proofs.Common.{rules, ltb-true}
+use Rattle.bits.specs.Code.{code_of}
 use Rattle.writing.proofs.Writing.push_code.Goals as goal
 
-pub returns-then-not-takes : goal.returns-then-not-takes
-returns-then-not-takes c = pushes_none c.is_code.ensures (λ f. c.code_bits.ensures (ltb-true _ _ f)) c.if-not-takes.ensures
-
 pub returns : goal.returns
-returns c = pushes_bits c.is_code.ensures (λ f. c.code_bits.ensures (ltb-true _ _ f)) c.if-not-takes.ensures refl refl c.put_code.ensures.output (λ f. c.put_code.ensures.puts (ltb-true _ _ f)) (search (rules, c.put_code.ensures.output.same))
+returns c =
+    rw c.is_code.ensures at c.push.ensures (code_of c.args.value) (λ f. c.code_bits.ensures (ltb-true _ _ f)) (λ x y p. (search (rules, p), λ f. search (rules, p, ltb-true c.args.value 4294967295 f)))
