@@ -4,7 +4,7 @@ use crate::expected::{Front, Step};
 use bit_writer::BitWriter;
 use replay_numbers::Content;
 
-// As it is (2): `reading::is_step` calls the reader, each step with other arguments and another answer: one function of both would take five closures.
+// As it is (2): `reading::is_step` has the reader answer with the value that the writer is passed here; one function of both would take a closure for each step.
 // Whether a step at a place of an output says what is expected, and leaves the writer where it is to stand.
 pub fn is_step(step: Step, out: &mut [u8], front: Front) -> bool {
     let expected = front.expected;
