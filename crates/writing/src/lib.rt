@@ -150,6 +150,7 @@ impl<'a> Writing<'a> {
     }
 
     // That number, as a field.
+    // As it is (2): `code` has its call of `next_number` and its `c += 1` too; one method for both would take the push as a closure, and the table and its bits by its contract alone.
     #[inline]
     fn field(&mut self, plus: u32, width: u32) -> Result<u32, Refusal>
         ensures goes { Emits (field (field_width width) plus done) self.old result self.new }
