@@ -52,9 +52,9 @@ reached_first masks n p j =
     let l : m ≡ min n (length masks) = length-take n masks in
     let e : m + (n - m) ≡ n = omega (arith, l) in
     let past : (k : ℕ) → m ≤ k → k < m + (n - m) → (p k && bit_of (get_or masks k 0) j) ≡ false =
-        λ k u v.
-        ap (λ (x : ℕ). p k && bit_of x j) (get_or_past masks k 0 (omega (arith, l, u, v, e)))
-        ∙ ap (λ (b : Bool). p k && b) (bit_empty j) ∙ and-false (p k) in
+    λ k u v.
+    ap (λ (x : ℕ). p k && bit_of x j) (get_or_past masks k 0 (omega (arith, l, u, v, e)))
+    ∙ ap (λ (b : Bool). p k && b) (bit_empty j) ∙ and-false (p k) in
     with_ext m (bit_at (take n masks)) (bit_at masks) p p j refl (λ k u. refl) (λ k u. ap (λ (x : ℕ). bit_of x j) (get_or-take n masks k 0 (omega (arith, l, u))))
     ∙ ap (λ (b : Bool). p j || b) (sym (any_past _ m (n - m) past))
     ∙ ap (λ (k : ℕ). with_reached k (bit_at masks) p j) e

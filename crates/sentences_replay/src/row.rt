@@ -23,9 +23,7 @@ fn is_stored(number: u32, bytes: &[u8], output: &mut [u8]) -> bool {
     match sentence(number, output) {
         Ok(n) => n == bytes.len() && holds(output, bytes),
         Err(refusal) => {
-            refusal == Refusal::OutputTooShort
-                && output.len() < bytes.len()
-                && holds(output, b"")
+            refusal == Refusal::OutputTooShort && output.len() < bytes.len() && holds(output, b"")
         }
     }
 }
