@@ -50,6 +50,7 @@ fn window_start(n: usize, i: usize) -> usize
 }
 
 // The window that is laid for a place's byte, as one number, and how many of its bits stand before the place.
+// As it is (6): near the end the window begins before the place's byte, so a slice from that byte on would not have it.
 pub fn window_for(bytes: &[u8], at: usize) -> (u64, usize)
     ensures bits { result.0 ≡ field_at bytes.now (8 * window_start (length bytes.now) (at / 8)) 64 }
     ensures skipped { result.1 ≡ at - 8 * window_start (length bytes.now) (at / 8) }

@@ -150,8 +150,8 @@ width_kept w h = go (ltb w 32) refl where
   go false e = omega (arith, h, ltb-false w 32 e)
 
 -- a code of a short prefix is one field
-pub code_field : (v : ℕ) → v < 4294967295 → prefix_length v < 16 → bits_of (field_width (2 * prefix_length v + 1)) (v + 1) ≡ code_of v
-code_field v h few = rw (width_kept (2 * prefix_length v + 1) (omega (arith, few)), code_is_field v h) refl
+pub code_field : (v n k : ℕ) {w : ℕ} → bits_of (2 * k + 1) n ≡ code_of v → k < 16 → w ≡ 2 * k + 1 → bits_of (field_width w) n ≡ code_of v
+code_field v n k e few ew = rw (ew, width_kept (2 * k + 1) (omega (arith, few)), e) refl
 
 -- any is two fields: zeros, and the number and one
 code_fields : (v : ℕ) → v < 4294967295 → bits_of (field_width (prefix_length v)) 0 ++ bits_of (field_width (prefix_length v + 1)) (v + 1) ≡ code_of v
@@ -163,8 +163,8 @@ code_fields v h =
     let c : code_of v ≡ bits_of k 0 ++ bits_of (k + 1) (v + 1) = code_is_field v h ∙ ap (λ (n : ℕ). bits_of n (v + 1)) e ∙ bits_split k (k + 1) (v + 1) ∙ ap (λ (x : ℕ). bits_of k x ++ bits_of (k + 1) (v + 1)) z in
     rw (width_kept k (omega arith), width_kept (k + 1) (omega arith), c) refl
 
-pub code_puts : {v : ℕ} {s s₁ s₂ : Sink} → v < 4294967295 → Puts (bits_of (field_width (prefix_length v)) 0) s s₁ → Puts (bits_of (field_width (prefix_length v + 1)) (v + 1)) s₁ s₂ → Puts (code_of v) s s₂
-code_puts {v} h P Q = puts_as (code_fields v h) (puts_then P Q)
+pub code_puts : {v n k : ℕ} {s s₁ s₂ : Sink} → v < 4294967295 → n ≡ v + 1 → k ≡ prefix_length v → Puts (bits_of (field_width k) 0) s s₁ → Puts (bits_of (field_width (k + 1)) n) s₁ s₂ → Puts (code_of v) s s₂
+code_puts {v} h en ek P Q = puts_as (rw (ek, en) (code_fields v h)) (puts_then P Q)
 
 -- zeros to the boundary behind n bits are a field
 pub boundary_field : (n w : ℕ) → w ≡ to_boundary n → bits_of (field_width w) 0 ≡ replicate (to_boundary n) 0

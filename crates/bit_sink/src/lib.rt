@@ -7,9 +7,10 @@ ghost use Rattle.bits.specs.Code.{code_of};
 ghost use Rattle.bit_sink.specs.Holds.{limit, Holds};
 ghost use Rattle.bit_sink.specs.Puts.{SameOutput, Stores, StoresEnd, Puts, Finishes};
 
-use bits::{field_width, to_boundary};
+use bits::{CodeNumber, field_width, to_boundary};
 use joined::Joined;
-use stuffing::{is_guarded, store, zeros_behind};
+use lists::store;
+use stuffing::{is_guarded, zeros_behind};
 
 mod joined;
 
@@ -114,17 +115,15 @@ impl Sink<'_> {
         ensures output { SameOutput self.old self.new }
         ensures puts { value < 4294967295 → Puts (code_of value) self.old self.new }
     {
-        if value >= 0xffff_ffff {
+        let Some(code) = CodeNumber::of(value) else {
+            return;
+        };
+        if code.zeros < 16 {
+            self.put(code.number, code.bits());
             return;
         }
-        let code_num = value + 1;
-        let zeros = 31 - u32::leading_zeros(code_num);
-        if zeros < 16 {
-            self.put(code_num, 2 * zeros + 1);
-            return;
-        }
-        self.put(0, zeros);
-        self.put(code_num, zeros + 1);
+        self.put(0, code.zeros);
+        self.put(code.number, code.zeros + 1);
     }
 
     // Zeros to the byte boundary.

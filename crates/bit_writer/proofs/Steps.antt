@@ -3,17 +3,19 @@ use Prim.Native.Nat.{ℕ, suc, ◌+◌, ◌*◌, ◌-◌, ◌/◌, ◌%◌, ◌^
 use mathlib.Core.Bool.{Bool, true, false}
 use mathlib.Core.List.{List, ◌∷◌}
 use mathlib.Core.Path.{◌≡◌, refl, sym, ap, ◌∙◌, subst}
-use native.Mathlib.Nat.{one-mul, add-zero, div-lt_iff_lt-mul, le-div_iff_mul-le}
+use native.Mathlib.Nat.{lt_of_not-le, one-mul, add-zero, div-lt_iff_lt-mul, le-div_iff_mul-le}
 use native.Mathlib.Numerals.{add-one}
 use native.Mathlib.Omega.{arith}
 use borrow.Author.Tests.{le-leb, lt-leb, ne_eqb}
-use lib.Dec.{leb, eqb, lit<}
+use lib.Dec.{leb, ltb, eqb, lit<}
 use lib.ListN.{length}
 use lib.Pow.{pow_pos, shl_exact, shl-shr}
-use Rattle.std.proofs.Common.{Result, Ok, Err, lt-ltb, le-ltb, ◌&&◌}
+use Rattle.std.proofs.Common.{Option, Some, None, Result, Ok, Err, ◌↔◌, is_some, IsSome, lt-ltb, le-ltb, ◌&&◌}
 use Rattle.std.proofs.Math.Bool.{and-false}
+use Rattle.std.proofs.lemmas.Bool.{false≢true}
 use Rattle.refusals.specs.declared.refusal.Refusal.{Refusal}
 use Rattle.refusals.specs.declared.refusal.Refusal.TheVariants.{NotWellFormed, OutputTooShort}
+use Rattle.bits.specs.declared.CodeNumber.{CodeNumber}
 use Rattle.bits.specs.Reading.{place_good}
 use Rattle.bits.specs.Bits.{weight, to_boundary, bits_of, with_bit, set_bit, set_bits}
 use Rattle.bits.specs.Writing.{write_bits, buffer_after, trailing_bits}
@@ -100,6 +102,15 @@ far {at} h = le-ltb at (2 ^ 63) h
 
 pub far_too : (t : Bool) {at : ℕ} → 2 ^ 63 ≤ at → (t && place_good at) ≡ false
 far_too t h = rw (far h) (and-false t)
+
+-- whether a value has a code
+pub coded : {v : ℕ} {r : Option CodeNumber} {c : CodeNumber} → (IsSome r ↔ v < 4294967295) → r ≡ Some c → ltb v 4294967295 ≡ true
+coded {v} s e = lt-ltb v 4294967295 (s.0 (ap is_some e))
+
+pub uncoded : {v : ℕ} {r : Option CodeNumber} → (IsSome r ↔ v < 4294967295) → r ≡ None → ltb v 4294967295 ≡ false
+uncoded {v} s e =
+    let over : 4294967295 < suc v = lt_of_not-le (λ h. false≢true (sym (ap is_some e) ∙ s.1 h)) in
+    le-ltb v 4294967295 (omega arith)
 
 module _ {good : Bool} {b : List ℕ} (w : BitWriter) where
   -- numbers out of range: the refusal, and all as it was

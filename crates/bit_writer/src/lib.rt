@@ -8,6 +8,7 @@ ghost use Rattle.bits.specs.Reading.{place_good};
 ghost use Rattle.bits.specs.Writing.{field_good, code_good, alignment_bits, trailing_bits};
 ghost use Rattle.bit_writer.specs.Answers.{Writes};
 
+use bits::CodeNumber;
 use refusals::Refusal;
 
 fn weight_at(at: usize) -> u32
@@ -39,13 +40,14 @@ fn put_field(out: &mut [u8], at: usize, value: u64, width: u32)
     requires { (at < 2 ^ 63) × (width ≤ 64) × (at + width ≤ 8 * length out.old) }
     ensures { out.new ≡ set_bits out.old at (bits_of width value) }
 {
-    for i in 0..width {
-        let bit = (value >> (width - 1 - i)) % 2;
-        put_bit(out, at + i as usize, bit as u32);
+    for i in (0..width).rev() {
+        let bit = (value >> i) % 2;
+        put_bit(out, at + (width - 1 - i) as usize, bit as u32);
     }
 }
 
 // A lent output, and a place among its bits, counted from its first. A refused step leaves both as they were.
+// As it is (6): the place is a bit's, and a slice can begin at a byte alone; a refusal leaves it for the caller to see.
 #[derive(Drop)]
 pub struct BitWriter<'a> {
     pub out: &'a mut [u8],
@@ -101,17 +103,13 @@ impl<'a> BitWriter<'a> {
         self.put(value as u64, width)
     }
 
-    // A code; its prefix has one zero less than the code number has bits.
+    // A code: one field of its number.
     pub fn write_ue(&mut self, value: u32) -> Result<(), Refusal>
         ensures { Writes (code_good self.old.bit_pos value) (code_of value) self.old result self.new }
     {
         bits::place(self.bit_pos)?;
-        if value >= 0xffff_ffff {
-            return Err(Refusal::NotWellFormed);
-        }
-        let code_num = value + 1;
-        let zeros = 31 - u32::leading_zeros(code_num);
-        self.put(code_num as u64, 2 * zeros + 1)
+        let code = CodeNumber::of(value).ok_or(Refusal::NotWellFormed)?;
+        self.put(code.number as u64, code.bits())
     }
 
     // Zeros to the byte boundary.

@@ -1,7 +1,7 @@
 // Adds emulation prevention bytes to an RBSP and removes them from a NAL unit's payload.
 #![tactic(auto)]
 
-ghost use Rattle.std.specs.Prelude.{◌≤◌, ◌≡◌, IsTrue, leb, length, set};
+ghost use Rattle.std.specs.Prelude.{◌≤◌, ◌≡◌, IsTrue, leb, length};
 ghost use Rattle.std.proofs.lemmas.List.Edits.{sets};
 ghost use Rattle.refusals.specs.Lent.{lent, output_after};
 ghost use Rattle.refusals.specs.Refusals.{answer_of};
@@ -9,16 +9,6 @@ ghost use Rattle.stuffing.specs.Stuffing.{guarded, zeros_behind, unstuff, stuff}
 ghost use Rattle.stuffing.specs.Machine.{dropped, zeros_in, more_in};
 
 use refusals::Refusal;
-
-// Stores a byte where the output has such a place.
-// As it is (6): writers count on behind the end of an output that is too short, where no rest of the slice begins.
-pub fn store(out: &mut [u8], at: usize, b: u8)
-    ensures { out.new ≡ set out.old at b }
-{
-    if at < out.len() {
-        out[at] = b;
-    }
-}
 
 // The zeros that end in a byte, counted up to two.
 pub fn zeros_behind(zeros: u32, b: u8) -> u32
@@ -41,6 +31,7 @@ pub fn is_guarded(zeros: u32, b: u8) -> bool
 // added it counts as one of them, and any number but 0 stands for a byte that is none.
 
 // Whether a byte behind two others is a 03 to be dropped.
+// As it is (2): adding asks for two zeros too, but of numbers that a 03 was counted into, and for 0 or 1 to add to its places.
 fn is_dropped(before: u8, last: u8, b: u8) -> bool
     ensures { result ≡ dropped (zeros_in before last) b }
 {
@@ -79,6 +70,7 @@ pub fn rbsp_length(ebsp: &[u8]) -> usize
 }
 
 // Whether what removing leaves has room.
+// As it is (2): adding has a test of its own, since it lengthens by up to a half and removing never does; the last comparison alone is alike.
 fn has_room_removed(ebsp: &[u8], out: &[u8]) -> bool
     ensures { result ≡ leb (length (unstuff ebsp.now)) (length out.now) }
 {
@@ -87,6 +79,7 @@ fn has_room_removed(ebsp: &[u8], out: &[u8]) -> bool
 
 // Removes the stuffing of a payload into a lent output: `Ok` says how many bytes were written; those behind them are as before.
 // A refusal leaves the output as it was.
+// As it is (2): adding has this `if` too; one function for both would take the test, the work and what each promises as parameters.
 pub fn ebsp_to_rbsp(ebsp: &[u8], rbsp: &mut [u8]) -> Result<usize, Refusal>
     ensures answered { answer_of result ≡ lent (unstuff ebsp.now) rbsp.old }
     ensures left { rbsp.new ≡ output_after (unstuff ebsp.now) rbsp.old }

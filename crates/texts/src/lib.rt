@@ -5,6 +5,7 @@ ghost use Rattle.std.specs.Prelude.{◌≡◌, take};
 ghost use Rattle.texts.specs.Adds.{Adds};
 
 // A lent slice, and the place behind the text that stands in it so far.
+// As it is (6): `so_far` gives the bytes before the place back, so the slice stays whole: a rest alone would have let go of them.
 #[derive(Drop)]
 pub struct Text<'a> {
     pub bytes: &'a mut [u8],
@@ -32,11 +33,11 @@ impl<'a> Text<'a> {
     pub fn put(&mut self, bytes: &[u8])
         ensures { Adds bytes.now self.old self.new }
     {
-        for byte in bytes {
-            if self.place < self.bytes.len() {
-                self.bytes[self.place] = *byte;
-                self.place += 1;
-            }
+        let room = self.bytes.len().saturating_sub(self.place);
+        let count = bytes.len().min(room);
+        if count > 0 {
+            self.bytes[self.place..self.place + count].copy_from_slice(&bytes[..count]);
+            self.place += count;
         }
     }
 }

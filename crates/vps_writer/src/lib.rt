@@ -50,8 +50,8 @@ pub fn is_well_formed(record: &[u32]) -> bool
 fn put_unit(rec: &[u32], out: &mut [u8]) -> Result<usize, Refusal>
     ensures { Finishes (write_record rec.now) 2 (set (set out.old 0 0) 1 113) result out.new }
 {
-    stuffing::store(out, 0, 0);
-    stuffing::store(out, 1, TYPE_BYTE);
+    lists::store(out, 0, 0);
+    lists::store(out, 1, TYPE_BYTE);
     put_rbsp(rec, out)
 }
 

@@ -3,4 +3,4 @@ use Rattle.bit_writer.proofs.Steps.{Halfway}
 use Rattle.bit_writer.proofs.put_field.Given as goal
 
 abbrev pub invariant-loop-i : goal.invariant-loop-i
-invariant-loop-i l = Halfway l.initial.out l.at l.value l.width l.out (l.width - l.i) (l.at + l.i)
+invariant-loop-i l = Halfway l.initial.out l.at l.value l.width l.out l.i (l.at + (l.width - l.i))

@@ -1,12 +1,10 @@
--- `put` meets its contract: each byte is one more of those that are put, or has no room.
-use Rattle.texts.specs.Text.{puts_more, puts_full}
+-- `put` meets its contract: the first bytes stand there, as many as there is room for, and storing the others too changes nothing.
+use Rattle.std.proofs.Common.{refl, arith}
+use Rattle.texts.specs.Text.{puts_room, puts_no_room}
 use Rattle.texts.proofs.Text.put.Goals as goal
-use Rattle.texts.proofs.Text.put.Goals.{then-self, else-self}
 
-pub loop-byte-preserved : goal.loop-byte-preserved
-loop-byte-preserved c =
-    let so_far = c.loop-byte.invariant in
-    elim c.if-self.branch [
-      | then-self w ↦ rw w.self-is (record { same_reference = so_far.same_reference; puts = puts_more _ _ so_far.puts c.loop-byte-test.true w.if-self.true })
-      | else-self w ↦ rw w.self-is (record { same_reference = so_far.same_reference; puts = puts_full _ _ so_far.puts c.loop-byte-test.true w.if-self.false })
-    ]
+pub returns-then-count-gt0 : goal.returns-then-count-gt0
+returns-then-count-gt0 c = record { same_reference = refl; puts = puts_room c.args.bytes.now c.saturating_sub-room.ensures c.min-count.ensures c.if-count-gt0.true (omega arith) c.copy_from_slice.ensures.after }
+
+pub returns-else-count-gt0 : goal.returns-else-count-gt0
+returns-else-count-gt0 c = record { same_reference = refl; puts = puts_no_room c.args.bytes.now c.saturating_sub-room.ensures c.min-count.ensures c.if-count-gt0.false }
