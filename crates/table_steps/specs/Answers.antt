@@ -1,5 +1,6 @@
 -- The code's answer may have another type than the table's: it stands for the table's by a relation of the two.
 use Rattle.std.specs.Prelude.{ℕ, ◌≡◌, List, Result, Ok, Err, ⊤}
+use Rattle.std.proofs.Common.{MutBor}
 use Rattle.refusals.specs.declared.refusal.Refusal.{Refusal}
 use Rattle.vps_definition.specs.Syntax.{Syntax}
 use Rattle.vps_definition.specs.Words.{sum}
@@ -16,3 +17,7 @@ IsSum n l = n ≡ sum l
 -- the answer doesn't say what was gone along
 abbrev pub Any : {A : Type 0} → Unit {0} → A → Type 0
 Any u a = ⊤
+
+-- each call of a step goes along the table
+abbrev pub GoesAlong : {S : Type 0} → (Syntax (Unit {0}) → S → Result (Unit {0}) Refusal → S → Type 0) → Syntax (Unit {0}) → (MutBor S → Result (Unit {0}) Refusal → MutBor S → Type 0) → Type 0
+GoesAlong {S} goes m step = (x y : MutBor S) (r : Result (Unit {0}) Refusal) → step x r y → goes m x.now r y.now
