@@ -1,7 +1,7 @@
 -- The flags, the boundary, as many levels as flags are 1, and the sub-profiles.
 use Rattle.std.specs.Prelude.{ℕ}
 use Rattle.std.proofs.Common.{rules, ap}
-use Rattle.vps_definition.specs.ProfileTierLevel.{reversed}
+use Rattle.vps_definition.specs.ProfileTierLevel.{reversed, sub_profiles}
 use Rattle.table_steps.specs.Laws.{goes_as}
 use Rattle.vps_profile.specs.Parts.{from_sublayers}
 use Rattle.vps_profile.proofs.from_sublayers.Goals as goal
@@ -31,4 +31,5 @@ returns g c =
     let L = g.S.Steps.laws in
     let F = c.in_ok-levels.ensures in
     let V = goes_as L (ap (λ (k : ℕ). reversed k 8) F.1) c.in_ok-sublayer_levels.ensures.2 in
-    search (rules, L.goes_then, F.2, V)
+    let W = c.when.ensures sub_profiles (λ x y r p. search (rules, p)) in
+    search (rules, L.goes_then, F.2, V, W)

@@ -1,7 +1,7 @@
 -- The table's two words, in its order.
 use Rattle.std.proofs.Common.{rules}
 use Rattle.vps_definition.specs.DpbParameters.{index}
-use Rattle.vps_entries.proofs.index.Goals as goal
+use Rattle.vps_entries.proofs.Indices.one.Goals as goal
 
 pub returns-in_err-v : goal.returns-in_err-v
 unfolding index
