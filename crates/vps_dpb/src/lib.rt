@@ -5,13 +5,11 @@ ghost use Rattle.std.specs.Prelude.{ℕ};
 ghost use Rattle.refusals.specs.Number.{dpb_max_tid};
 ghost use Rattle.vps_definition.specs.DpbParameters.{dpb_sublayer, per_sublayer, ols_dpb, dpb_section};
 
+use record_parts::Record;
 use refusals::Refusal;
 use table_steps::Steps;
 use vps_entries::Indices;
 use vps_fields::Header;
-
-// The record's place of vps_sublayer_dpb_params_present_flag.
-const SUBLAYER_DPB_PARAMS_PRESENT_FLAG: usize = 7;
 
 // One sublayer's triple.
 fn dpb_sublayer<S: Steps>(steps: &mut S) -> Result<(), Refusal>
@@ -56,7 +54,7 @@ pub fn dpb_section<S: Steps>(steps: &mut S, header: Header, multi: u32) -> Resul
     let slots = steps.ue_minus1()?;
     steps.check(slots <= multi, Refusal::DpbSlots)?;
     let sublayers = 0 < header.max_sublayers_minus1;
-    let flag = steps.general_if(sublayers, SUBLAYER_DPB_PARAMS_PRESENT_FLAG, 1, 0)?;
+    let flag = steps.general_if(sublayers, Record::SUBLAYER_DPB_PARAMS_PRESENT_FLAG, 1, 0)?;
     table_steps::repeat(steps, slots as u64, |steps| dpb_slot(steps, header, flag))?;
     let _sets = steps.infer(multi)?;
     for i in 0..multi {
