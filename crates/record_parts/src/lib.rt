@@ -12,6 +12,25 @@ impl Record {
     // The numbers of the General section.
     pub const GENERAL: usize = 9;
 
+    // Their places, by the names of the standard's fields; the first number is how many layers there are.
+    pub const LAYERS: usize = 0;
+
+    pub const VIDEO_PARAMETER_SET_ID: usize = 1;
+
+    pub const MAX_SUBLAYERS_MINUS1: usize = 2;
+
+    pub const DEFAULT_PTL_DPB_HRD_MAX_TID_FLAG: usize = 3;
+
+    pub const ALL_INDEPENDENT_LAYERS_FLAG: usize = 4;
+
+    pub const EACH_LAYER_IS_AN_OLS_FLAG: usize = 5;
+
+    pub const OLS_MODE_IDC: usize = 6;
+
+    pub const SUBLAYER_DPB_PARAMS_PRESENT_FLAG: usize = 7;
+
+    pub const EXTENSION_FLAG: usize = 8;
+
     // The starts in the trailer, one for each section after General.
     pub const STARTS: usize = 7;
 
@@ -49,13 +68,11 @@ pub fn number_at(rec: &[u32], i: usize) -> u32
 fn trailer_start(rec: &[u32]) -> usize
     ensures { result ≡ length rec.now - 8 }
 {
-    if rec.len() < Record::TRAILER {
-        return 0;
-    }
-    rec.len() - Record::TRAILER
+    rec.len().saturating_sub(Record::TRAILER)
 }
 
 // Where section k starts. From 8 on it is the trailer.
+// As it is (1): every number has an answer, and the trailer is said to start at one place from 8 on; an enum of nine has none for 9.
 pub fn start_of(rec: &[u32], k: usize) -> usize
     ensures { result ≡ start_of rec.now k }
 {
@@ -69,6 +86,7 @@ pub fn start_of(rec: &[u32], k: usize) -> usize
 }
 
 // Where it ends: there the next one starts, and the trailer ends with the record.
+// As it is (1): every number has an answer, as for `start_of`, and the next section is k + 1, where an enum needs a table of those behind.
 pub fn end_of(rec: &[u32], k: usize) -> usize
     ensures { result ≡ end_of rec.now k }
 {
