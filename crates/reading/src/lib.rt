@@ -66,9 +66,7 @@ impl<'a> Reading<'a> {
         requires { self.old.n < 2 * limit }
         ensures { Stands self.old self.new self.old.at (self.old.n + 1) (set self.old.rec.now self.old.n v) }
     {
-        if self.n < self.rec.len() {
-            self.rec[self.n] = v;
-        }
+        lists::store(self.rec, self.n, v);
         self.n += 1;
     }
 
