@@ -67,9 +67,9 @@ fn sub_profiles<S: Parts>(steps: &mut S, present: u32) -> Result<(), Refusal>
 fn from_sublayers<S: Parts>(steps: &mut S, head: SlotHead) -> Result<(), Refusal>
     ensures { S.goes (Unit {0}) (from_sublayers head.present head.max_tid) steps.old result steps.new }
 {
-    let levels = steps.sublayer_flags(head.max_tid)?;
+    let levels = steps.reversed(head.max_tid, 1)?;
     steps.align(None)?;
-    steps.sublayer_levels(levels)?;
+    steps.reversed(levels as u32, 8)?;
     sub_profiles(steps, head.present)
 }
 

@@ -3,7 +3,7 @@ use Rattle.std.specs.Slice.Iter.{iter_rest}
 use Rattle.std.specs.Iterator.Adapters.{rev_source}
 use Rattle.bits.specs.Bits.{field_width}
 use Rattle.writing.specs.Reversed.{Falling}
-use Rattle.writing.proofs.Writing.reverse.Given as goal
+use Rattle.writing.proofs.parts.WritingParts.reversed.Given as goal
 
 abbrev pub invariant-loop-v : goal.invariant-loop-v
 invariant-loop-v l =
