@@ -9,6 +9,7 @@ ghost use Rattle.layer_sets.specs.Flags.{with_flag};
 use record_parts::Record;
 
 // Whether layer j is in the mask; no mask has a layer from 64 on.
+// As it is (5): a mask is one number with nothing beside it; were it a struct, lent masks would be a list of structs, and the laws of closed masks would go by a map to their numbers.
 fn has(mask: u64, j: usize) -> bool
     ensures { result ≡ bit_of mask j }
 {

@@ -1,7 +1,8 @@
 -- Numbers that stand in the record's rest, and zeros past its end.
-use Rattle.std.specs.Prelude.{ℕ, zero, suc, ◌+◌, ◌≤◌, ◌<◌, ◌≡◌, refl, List, [], ◌∷◌, ◌++◌, Bool, true, false, leb, length, get_or, take, drop}
-use Rattle.std.proofs.Common.{sym, ap, ap₂, ◌∙◌, add-zero, zero-add, add-one, arith, leb-true, leb-false, drop_of_length-le, take-suc, take_all}
-use Rattle.std.proofs.lemmas.List.{take-append-drop}
+use Rattle.std.specs.Prelude.{ℕ, zero, suc, ◌+◌, ◌≤◌, ◌<◌, ◌≡◌, refl, List, [], ◌∷◌, ◌++◌, Bool, true, false, leb, min, length, get_or, take, drop}
+use Rattle.std.proofs.Common.{sym, ap, ap₂, ◌∙◌, add-zero, zero-add, arith, leb-true, leb-false, drop_of_length-le}
+use Rattle.std.specs.List.{fold}
+use Rattle.std.proofs.Math.Nat.{min-le_left, min-le_right, min-eq_left, min-eq_right}
 use Rattle.vps_definition.specs.Words.{sum}
 
 -- n numbers, the first of which stands i numbers on
@@ -85,33 +86,41 @@ sum_standing zero x = refl
 sum_standing (suc n) [] = omega (arith, ap sum (standing_drop n 0 []), sum_standing n [], ap sum (take_none n))
 sum_standing (suc n) (v ∷ x) = ap (λ (l : List ℕ). v + sum l) (sym (standing_drop n 0 (v ∷ x))) ∙ ap (λ (k : ℕ). v + k) (sum_standing n x)
 
-sum_append : (x y : List ℕ) → sum (x ++ y) ≡ sum x + sum y
-unfolding sum
-sum_append [] y = omega arith
-sum_append (v ∷ x) y = omega (arith, sum_append x y)
-
 -- a count that is right up to `most`, and above it where the right one is
 pub record Capped (most all r : ℕ) : Type 0 where
   pub exact : r ≤ most → r ≡ all
   pub over : most < r → most < all
 
--- a loop that adds up the first count numbers of a list, as far as there are any, is behind i of them
-module _ (x : List ℕ) (count i : ℕ) {y : List ℕ} {s : ℕ} (t : y ≡ take count x) (e : s ≡ sum (take i y)) where
-  -- it may stop where the sum is too large
-  pub capped_over : {most : ℕ} → most < s → Capped most (sum (standing count 0 x)) s
-  capped_over h = record {
-    exact = λ l. absurd (omega arith);
-    over = λ l. omega (arith, e, sum_standing count x, ap sum t, ap sum (take-append-drop i y), sum_append (take i y) (drop i y));
-  }
-
-  pub capped_all : {most : ℕ} → length y ≤ i → Capped most (sum (standing count 0 x)) s
-  capped_all h =
-      let all : s ≡ sum (standing count 0 x) = e ∙ ap sum (take_all i y h ∙ t) ∙ sym (sum_standing count x) in
-      record { exact = λ l. all; over = λ l. omega (arith, all) }
-
-pub sum_more : (y : List ℕ) (i : ℕ) → i < length y → sum (take (i + 1) y) ≡ sum (take i y) + get_or y i 0
+-- a sum that stays at the greatest number of its type once it would pass it
+sum_up_to : (top a : ℕ) (l : List ℕ) → a ≤ top → fold (λ s v. min (s + v) top) a l ≡ min (a + sum l) top
 unfolding sum
-sum_more y i h = ap (λ (k : ℕ). sum (take k y)) (add-one i) ∙ ap sum (take-suc y i 0 h) ∙ omega (arith, sum_append (take i y) (get_or y i 0 ∷ []))
+sum_up_to top a [] h = sym (min-eq_left (omega arith) ∙ add-zero a)
+sum_up_to top a (v ∷ l) h = sum_up_to top (min (a + v) top) l (min-le_right (a + v) top) ∙ more (leb (a + v) top) refl
+  where
+    more : (b : Bool) → leb (a + v) top ≡ b → min (min (a + v) top + sum l) top ≡ min (a + (v + sum l)) top
+    more true e = ap (λ (n : ℕ). min (n + sum l) top) (min-eq_left (leb-true (a + v) top e)) ∙ ap (λ (n : ℕ). min n top) (omega arith)
+    more false e =
+        let k : top ≤ a + v = omega (arith, leb-false (a + v) top e) in
+        let far : top ≤ a + (v + sum l) = omega (arith, k) in
+        let near : top ≤ top + sum l = omega arith in
+        ap (λ (n : ℕ). min (n + sum l) top) (min-eq_right k) ∙ min-eq_right near ∙ sym (min-eq_right far)
+
+-- such a sum is right up to what is below that number
+pub capped_up_to : (x : List ℕ) (count : ℕ) (most top : ℕ) {r : ℕ} → most < top → r ≡ fold (λ s v. min (s + v) top) 0 (take count x) → Capped most (sum (standing count 0 x)) r
+capped_up_to x count most top {r} h e = record {
+  exact = λ l. go l (leb all top) refl;
+  over = λ l. omega (arith, l, is, min-le_left all top, sum_standing count x);
+}
+  where
+    all : ℕ
+    all = sum (take count x)
+
+    is : r ≡ min all top
+    is = e ∙ sum_up_to top 0 (take count x) (omega arith) ∙ ap (λ (n : ℕ). min n top) (zero-add all)
+
+    go : r ≤ most → (b : Bool) → leb all top ≡ b → r ≡ sum (standing count 0 x)
+    go l true k = is ∙ min-eq_left (leb-true all top k) ∙ sym (sum_standing count x)
+    go l false k = let t : min all top ≡ top = min-eq_right (omega (arith, leb-false all top k)) in absurd (omega (arith, l, h, is, t))
 
 module _ {most all r : ℕ} (C : Capped most all r) where
   pub capped_exact : all ≤ most → r ≡ all

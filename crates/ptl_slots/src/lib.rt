@@ -17,14 +17,9 @@ pub fn sum_numbers(numbers: &[u32], count: u32) -> usize
     ensures { Capped (length numbers.now) (sum (standing count 0 numbers.now)) result }
 {
     let first = numbers.get(..count as usize).unwrap_or(numbers);
-    let mut sum = 0;
-    for v in first {
-        if numbers.len() < sum {
-            return sum;
-        }
-        sum += *v as usize;
-    }
-    sum
+    first
+        .iter()
+        .fold(0, |sum: usize, v| sum.saturating_add(*v as usize))
 }
 
 // The number of the first four bits, the highest first; bits are not checked.

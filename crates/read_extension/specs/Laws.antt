@@ -10,22 +10,17 @@ use Rattle.bits.specs.OneLaws.{ones_past_end, ones_here, ones_fall}
 use Rattle.vps_definition.specs.Reading.{bits_at, data_bits}
 use Rattle.vps_laws.specs.Extension.{bits_at_length, bits_at_last, data_to_last, data_without_ones}
 
--- ── The search from the end, which has found no one-bit from place i on ──
+-- ── The search from the end, which has found no one-bit from its end on ──
 pub searched_none : (s : List ℕ) → ones_from s (8 * length s) ≡ 0
 searched_none s = ones_past_end s (8 * length s) (omega arith)
 
--- a zero before them
-pub searched_more : (s : List ℕ) (i : ℕ) {bit : ℕ} → bit ≡ bit_at s (i - 1) → ones_from s i ≡ 0 → 0 < i → (bit ≡ 1 → ⊥) → ones_from s (i - 1) ≡ 0
-searched_more s i e z l h =
-    let q : i - 1 + 1 ≡ i = omega arith in
-    let n : bit_at s (i - 1) ≡ 1 → ⊥ = λ o. h (e ∙ o) in
-    omega (arith, ones_here s (i - 1), bit_lt s (i - 1), n, ap (ones_from s) q, z)
+-- a zero before it
+pub searched_more : (s : List ℕ) (i : ℕ) → (bit_at s i ≡ 1 → ⊥) → ones_from s (i + 1) ≡ 0 → ones_from s i ≡ 0
+searched_more s i n z = omega (arith, ones_here s i, bit_lt s i, n, z)
 
--- a one before them is the last
-pub searched_found : (s : List ℕ) (at i : ℕ) {bit : ℕ} → bit ≡ bit_at s (i - 1) → ones_from s i ≡ 0 → 0 < i → bit ≡ 1 → i - 1 - at ≡ data_bits s at (8 * length s - at)
-searched_found s at i e z l h =
-    let q : i - 1 + 1 ≡ i = omega arith in
-    sym (data_to_last s at (8 * length s - at) (i - 1) refl (record { one = sym e ∙ h; none = rw q z }))
+-- a one before it is the last
+pub searched_found : (s : List ℕ) (at i : ℕ) → bit_at s i ≡ 1 → ones_from s (i + 1) ≡ 0 → i - at ≡ data_bits s at (8 * length s - at)
+searched_found s at i h z = sym (data_to_last s at (8 * length s - at) i refl (record { one = h; none = z }))
 
 -- and where there is none from the place on, no bit is read
 pub searched_through : (s : List ℕ) (at i : ℕ) → ones_from s i ≡ 0 → i ≤ at → 0 ≡ data_bits s at (8 * length s - at)

@@ -1,14 +1,14 @@
 -- Fields coded last first, read in the record's order.
-use Prim.Native.Nat.{ℕ, zero, suc, ◌+◌, ◌*◌, ◌-◌, ◌≤◌, ◌<◌}
-use Rattle.std.specs.Prelude.{◌≡◌, Bool, cond, Ok, set, length}
+use Prim.Native.Nat.{ℕ, zero, suc, ◌+◌, ◌*◌, ◌-◌, ◌^◌, ◌≤◌, ◌<◌}
+use Rattle.std.specs.Prelude.{◌≡◌, Ok, set, length}
 use Rattle.std.proofs.lemmas.List.Edits.{sets}
 use Rattle.std.proofs.Math.Seq.{length-sets}
 use Rattle.lists.specs.Stored.{sets_append}
 use Rattle.std.proofs.Math.Path.{refl, ap}
-use Rattle.std.proofs.Common.{sym, ◌∙◌, subst, length-append, add-one, zero-mul, suc-mul, arith, lt-ltb}
+use Rattle.std.proofs.Common.{sym, ◌∙◌, subst, length-append, add-one, zero-mul, suc-mul, arith}
 use mathlib.Core.List.{List, [], ◌∷◌, ◌++◌, append-nil}
-use Rattle.bits.specs.Bits.{bit_at, field_at, field_width, ones_at}
-use Rattle.bits.specs.FieldLaws.{field_one, ones_first}
+use Rattle.bits.specs.Bits.{field_at}
+use Rattle.bits.specs.FieldLaws.{field_lt}
 use Rattle.vps_definition.specs.Syntax.{◌>>=◌, Token, numbers, keeping, Outcome, run}
 use Rattle.vps_definition.specs.Syntax.Syntax.{done}
 use Rattle.vps_definition.specs.Syntax.Token.{number}
@@ -17,6 +17,7 @@ use Rattle.vps_definition.specs.Words.{sum, nothing, keeps}
 use Rattle.vps_definition.specs.ProfileTierLevel.{falling, reversed}
 use Rattle.vps_laws.specs.Bind.{after, then_read}
 use Rattle.vps_laws.proofs.Bind.{run_bind}
+use Rattle.table_steps.specs.Answers.{Gives, IsSum}
 use Rattle.reading.specs.declared.Reading.{Reading}
 use Rattle.reading.specs.Fits.{Room, Fits}
 use Rattle.reading.specs.Meets.{Went, After, Meets}
@@ -27,10 +28,6 @@ use Rattle.reading.specs.Silent.{run_silent}
 unfoldable pub falling_at : List ℕ → (at n w : ℕ) → List ℕ
 falling_at s at zero w = []
 falling_at s at (suc n) w = falling_at s (at + w) n w ++ (field_at s at w ∷ [])
-
--- a field of fewer than 32 bits is read whole
-pub field_whole : (s : List ℕ) {v p q w : ℕ} → w < 32 → p ≡ q → v ≡ field_at s p (field_width w) → v ≡ field_at s q w
-field_whole s {q = q} {w = w} h e i = i ∙ ap (λ (k : ℕ). field_at s k (field_width w)) e ∙ ap (λ (b : Bool). field_at s q (cond b w 32)) (lt-ltb w 32 h)
 
 -- ── The table ─────────────────────────────────────────────────────────
 run_falling : (n w : ℕ) (s : List ℕ) (at : ℕ) → run (falling n w) s at ≡ accepted (falling_at s at n w) [] (at + n * w)
@@ -79,87 +76,120 @@ none_behind : (s : List ℕ) (at n w : ℕ) → fields_behind s at n w n ≡ []
 unfolding falling_at
 none_behind s at n w = let e : n - n ≡ 0 = omega arith in ap (λ (k : ℕ). falling_at s (at + n * w) k w) e
 
-one_behind : (s : List ℕ) (at n w j : ℕ) → 0 < j → j ≤ n → fields_behind s at n w (j - 1) ≡ fields_behind s at n w j ++ (field_at s (at + (j - 1) * w) w ∷ [])
+one_behind : (s : List ℕ) (at n w i : ℕ) → i < n → fields_behind s at n w i ≡ fields_behind s at n w (i + 1) ++ (field_at s (at + i * w) w ∷ [])
 unfolding falling_at
-one_behind s at n w j h l =
-    let e : n - (j - 1) ≡ suc (n - j) = omega arith in
-    let i : suc (j - 1) ≡ j = omega arith in
-    let p : at + (j - 1) * w + w ≡ at + j * w = omega (arith, suc-mul (j - 1) w, ap (λ (k : ℕ). k * w) i) in
-    ap (λ (k : ℕ). falling_at s (at + (j - 1) * w) k w) e ∙ ap (λ (q : ℕ). falling_at s q (n - j) w ++ (field_at s (at + (j - 1) * w) w ∷ [])) p
+one_behind s at n w i h =
+    let e : n - i ≡ suc (n - (i + 1)) = omega (arith, h) in
+    let p : at + i * w + w ≡ at + (i + 1) * w = omega (arith, suc-mul i w, ap (λ (k : ℕ). k * w) (add-one i)) in
+    ap (λ (k : ℕ). falling_at s (at + i * w) k w) e ∙ ap (λ (q : ℕ). falling_at s q (n - (i + 1)) w ++ (field_at s (at + i * w) w ∷ [])) p
 
-all_behind : (s : List ℕ) (at n w j : ℕ) → j ≡ 0 → fields_behind s at n w j ≡ falling_at s at n w
-all_behind s at n w j z =
-    let e : n - j ≡ n = omega arith in
-    let p : at + j * w ≡ at = omega (arith, zero-mul w, ap (λ (k : ℕ). k * w) z) in
-    ap (λ (k : ℕ). falling_at s (at + j * w) k w) e ∙ ap (λ (q : ℕ). falling_at s q n w) p
+all_behind : (s : List ℕ) (at n w : ℕ) → fields_behind s at n w 0 ≡ falling_at s at n w
+all_behind s at n w =
+    let p : at + 0 * w ≡ at = omega (arith, zero-mul w) in
+    let e : n - 0 ≡ n = omega arith in
+    λ k. falling_at s (p k) (e k) w
 
--- i of them stored, and then one more
-pub one_stored : (s rec : List ℕ) (at n w i k v : ℕ) → i < n → v ≡ field_at s (at + (n - 1 - i) * w) w
-    → set (sets rec k (fields_behind s at n w (n - i))) (k + i) v ≡ sets rec k (fields_behind s at n w (n - (i + 1)))
-one_stored s rec at n w i k v h e =
-    let j : ℕ = n - i in
-    let a : n - i - 1 ≡ n - (i + 1) = omega arith in
-    let b : n - i - 1 ≡ n - 1 - i = omega arith in
-    let c : n - (n - i) ≡ i = omega (arith, h) in
-    let l : length (fields_behind s at n w j) ≡ i = falling_length s (at + j * w) (n - j) w ∙ c in
-    let p : fields_behind s at n w (j - 1) ≡ fields_behind s at n w j ++ (field_at s (at + (j - 1) * w) w ∷ []) = one_behind s at n w j (omega (arith, h)) (omega arith) in
-    ap (λ (q : ℕ). set (sets rec k (fields_behind s at n w j)) (k + q) v) (sym l)
-    ∙ ap (λ (x : ℕ). sets (sets rec k (fields_behind s at n w j)) (k + length (fields_behind s at n w j)) (x ∷ [])) (e ∙ ap (λ (q : ℕ). field_at s (at + q * w) w) (sym b))
-    ∙ sym (sets_append rec k (fields_behind s at n w j) (field_at s (at + (j - 1) * w) w ∷ []))
-    ∙ ap (sets rec k) (sym p) ∙ ap (λ (q : ℕ). sets rec k (fields_behind s at n w q)) a
+sum_last : (l : List ℕ) (v : ℕ) → sum (l ++ (v ∷ [])) ≡ sum l + v
+unfolding sum
+sum_last [] v = omega arith
+sum_last (u ∷ l) v = omega (arith, sum_last l v)
 
--- none stored
-pub none_stored : (s rec : List ℕ) (at n w k : ℕ) → rec ≡ sets rec k (fields_behind s at n w (n - 0))
-none_stored s rec at n w k = let z : n - 0 ≡ n = omega arith in ap (sets rec k) (sym (none_behind s at n w) ∙ ap (fields_behind s at n w) (sym z))
+-- the fields from field i on are stored, and their sum is this
+pub record Stored (n w : ℕ) (s : Reading) (i : ℕ) (s₁ : Reading) (total : ℕ) : Type 0 where
+  pub within : i ≤ n
+  pub stands : Stands s s₁ s.at (s.n + (n - i)) (sets s.rec.now s.n (fields_behind s.bytes.now s.at n w i))
+  pub is : total ≡ sum (fields_behind s.bytes.now s.at n w i)
+  pub low : total ≤ (n - i) * 4294967295
+  pub ones : w ≡ 1 → total ≤ n - i
 
--- all are stored, and the reading stands behind them
-pub meets_reversed : {s s' : Reading} {i : ℕ} (n w : ℕ) → n ≤ i → i ≤ n → Stands s s' (s.at + n * w) (s.n + i) (sets s.rec.now s.n (fields_behind s.bytes.now s.at n w (n - i)))
-    → Meets (List ℕ) (reversed n w) s (Ok (falling_at s.bytes.now s.at n w)) s'
-meets_reversed {s} {s'} {i} n w g h S = record { kept = stands_kept (length-sets s.rec.now s.n (fields_behind s.bytes.now s.at n w (n - i))) S; goes = λ F. subst (λ (x : Outcome (List ℕ)). After x s (Ok l) s') (sym (run_reversed n w s.bytes.now s.at)) W }
-  where
-    l : List ℕ
-    l = falling_at s.bytes.now s.at n w
+module _ {n w : ℕ} {s : Reading} where
+  pub stored_begin : Stored n w s n s 0
+  unfolding sum
+  stored_begin =
+      let z : n - n ≡ 0 = omega arith in
+      let e : fields_behind s.bytes.now s.at n w n ≡ [] = none_behind s.bytes.now s.at n w in
+      record {
+        within = omega arith;
+        stands = record { bytes = refl; name = refl; at' = refl; n' = omega (arith, z); rec' = ap (sets s.rec.now s.n) (sym e) };
+        is = sym (ap sum e);
+        low = omega arith;
+        ones = λ o. omega arith;
+      }
 
-    z : n - i ≡ 0
-    z = omega (arith, g)
+  -- the field before those that are stored, and its number behind theirs
+  pub stored_more : {i j v total : ℕ} {s₁ s₂ : Reading} → i ≡ j + 1 → v ≤ 4294967295 → v ≡ field_at s₁.bytes.now (s.at + j * w) w → Stored n w s i s₁ total
+      → Stands s₁ s₂ s₁.at (s₁.n + 1) (set s₁.rec.now s₁.n v) → Stored n w s j s₂ (total + v)
+  stored_more {i} {j} {v} {total} {s₁} {s₂} e high is F T = record {
+    within = omega (arith, F.within, e);
+    stands = record {
+      bytes = T.bytes ∙ F.stands.bytes;
+      name = T.name ∙ F.stands.name;
+      at' = T.at' ∙ F.stands.at';
+      n' = T.n' ∙ omega (arith, F.stands.n', F.within, e);
+      rec' = T.rec' ∙ (λ k. set (F.stands.rec' k) (F.stands.n' k) v) ∙ stored;
+    };
+    is = omega (arith, F.is, ap sum there, sum_last (fields_behind b s.at n w i) v);
+    low = omega (arith, F.low, F.within, e, high);
+    ones = λ o. omega (arith, F.ones o, F.within, e, ones, ap (λ (k : ℕ). 2 ^ k) o);
+  }
+    where
+      b : List ℕ
+      b = s.bytes.now
 
-    W : Went l (tokens l) (s.at + n * w) s (Ok l) s'
-    W = record {
-      result = refl;
-      place = S.at';
-      cursor = S.n' ∙ omega (arith, g, h, ap length (numbers_tokens l), falling_length s.bytes.now s.at n w);
-      stored = S.rec' ∙ ap (sets s.rec.now s.n) (all_behind s.bytes.now s.at n w (n - i) z ∙ sym (numbers_tokens l));
-    }
+      value : v ≡ field_at b (s.at + j * w) w
+      value = is ∙ ap (λ (x : List ℕ). field_at x (s.at + j * w) w) (ap (λ x. x.now) F.stands.bytes)
+
+      ones : v < 2 ^ w
+      ones = omega (arith, value, field_lt b (s.at + j * w) w)
+
+      there : fields_behind b s.at n w j ≡ fields_behind b s.at n w i ++ (v ∷ [])
+      there =
+          one_behind b s.at n w j (omega (arith, F.within, e))
+          ∙ (λ k. fields_behind b s.at n w (sym e k) ++ (sym value k ∷ []))
+
+      long : length (fields_behind b s.at n w i) ≡ n - i
+      long = falling_length b (s.at + i * w) (n - i) w
+
+      stored : set (sets s.rec.now s.n (fields_behind b s.at n w i)) (s.n + (n - i)) v ≡ sets s.rec.now s.n (fields_behind b s.at n w j)
+      stored =
+          ap (λ (q : ℕ). set (sets s.rec.now s.n (fields_behind b s.at n w i)) (s.n + q) v) (sym long)
+          ∙ sym (sets_append s.rec.now s.n (fields_behind b s.at n w i) (v ∷ []))
+          ∙ ap (sets s.rec.now s.n) (sym there)
+
+  -- all are stored, and the reading stands behind them
+  pub stored_all : {i total : ℕ} {s₁ s' : Reading} → i ≡ 0 → Stored n w s i s₁ total → Stands s₁ s' (s.at + n * w) s₁.n s₁.rec.now
+      → Gives Meets IsSum (reversed n w) s (Ok total) s'
+  stored_all {i} {total} {s₁} {s'} z F T = (
+    l,
+    F.is ∙ ap sum all,
+    record { kept = stands_kept (length-sets s.rec.now s.n l) S; goes = λ f. subst (λ (x : Outcome (List ℕ)). After x s (Ok l) s') (sym (run_reversed n w s.bytes.now s.at)) W },
+  )
+    where
+      l : List ℕ
+      l = falling_at s.bytes.now s.at n w
+
+      all : fields_behind s.bytes.now s.at n w i ≡ l
+      all = ap (fields_behind s.bytes.now s.at n w) z ∙ all_behind s.bytes.now s.at n w
+
+      S : Stands s s' (s.at + n * w) (s.n + n) (sets s.rec.now s.n l)
+      S = record {
+        bytes = T.bytes ∙ F.stands.bytes;
+        name = T.name ∙ F.stands.name;
+        at' = T.at';
+        n' = T.n' ∙ omega (arith, F.stands.n', z);
+        rec' = T.rec' ∙ F.stands.rec' ∙ ap (sets s.rec.now s.n) all;
+      }
+
+      W : Went l (tokens l) (s.at + n * w) s (Ok l) s'
+      W = record {
+        result = refl;
+        place = S.at';
+        cursor = S.n' ∙ omega (arith, ap length (numbers_tokens l), falling_length s.bytes.now s.at n w);
+        stored = S.rec' ∙ ap (sets s.rec.now s.n) (sym (numbers_tokens l));
+      }
 
 -- fields that are read find room
 pub room_reversed : (n w : ℕ) (s : List ℕ) (at k : ℕ) → 0 < n → Fits (reversed n w) s at k → Room at k
 unfolding reversed falling keeps nothing ◌>>=◌ Fits
 room_reversed zero w s at k h F = absurd (omega (arith, h))
 room_reversed (suc n) w s at k h F = F.0
-
--- ── Flags ─────────────────────────────────────────────────────────────
-sum_last : (l : List ℕ) (v : ℕ) → sum (l ++ (v ∷ [])) ≡ sum l + v
-unfolding sum
-sum_last [] v = omega arith
-sum_last (u ∷ l) v = omega (arith, sum_last l v)
-
-pub sum_flags : (s : List ℕ) (at n : ℕ) → sum (falling_at s at n 1) ≡ ones_at s at n
-unfolding falling_at sum
-sum_flags s at zero = unfold ones_at in refl
-sum_flags s at (suc n) = sum_last (falling_at s (at + 1) n 1) (field_at s at 1) ∙ omega (arith, sum_flags s (at + 1) n, field_one s at, ones_first s at n)
-
--- one flag more
-pub ones_last : (s : List ℕ) (at j : ℕ) → ones_at s at (j + 1) ≡ ones_at s at j + bit_at s (at + j)
-unfolding ones_at
-ones_last s at j = ap (ones_at s at) (add-one j)
-
--- i fields stored, and one more
-pub one_more : {s s₁ s₂ : Reading} {at : ℕ} {rec rec' : List ℕ} (i v : ℕ) → Stands s s₁ at (s.n + i) rec → Stands s₁ s₂ s₁.at (s₁.n + 1) (set s₁.rec.now s₁.n v) → set rec (s.n + i) v ≡ rec'
-    → Stands s s₂ at (s.n + (i + 1)) rec'
-one_more i v S T e = record {
-  bytes = T.bytes ∙ S.bytes;
-  name = T.name ∙ S.name;
-  at' = T.at' ∙ S.at';
-  n' = T.n' ∙ omega (arith, S.n');
-  rec' = T.rec' ∙ (λ k. set (S.rec' k) (S.n' k) v) ∙ e;
-}

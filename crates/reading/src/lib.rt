@@ -2,6 +2,7 @@
 #![tactic(auto)]
 
 use bit_reader::BitReader;
+use bits::{field_width, to_boundary};
 use refusals::Refusal;
 use table_steps::{Parts, Steps};
 
@@ -65,9 +66,7 @@ impl<'a> Reading<'a> {
         requires { self.old.n < 2 * limit }
         ensures { Stands self.old self.new self.old.at (self.old.n + 1) (set self.old.rec.now self.old.n v) }
     {
-        if self.n < self.rec.len() {
-            self.rec[self.n] = v;
-        }
+        lists::store(self.rec, self.n, v);
         self.n += 1;
     }
 
@@ -86,13 +85,11 @@ impl<'a> Reading<'a> {
 }
 
 impl Reading<'_> {
-    ghost use Rattle.std.specs.Prelude.{ℕ, ◌≡◌, ◌<◌, ◌≤◌, ◌+◌, ◌^◌, List, Ok, IfOk};
-    ghost use Rattle.bits.specs.Bits.{field_width, ones_at};
+    ghost use Rattle.std.specs.Prelude.{ℕ, ◌≡◌, ◌<◌, ◌≤◌, ◌+◌, ◌^◌, IfOk};
+    ghost use Rattle.bits.specs.Bits.{field_width};
     ghost use Rattle.vps_definition.specs.Syntax.Syntax.{field, code, done};
-    ghost use Rattle.vps_definition.specs.ProfileTierLevel.{reversed};
     ghost use Rattle.reading.specs.Fits.{limit};
     ghost use Rattle.reading.specs.Meets.{Meets};
-    ghost use Rattle.reading.specs.Reversed.{falling_at};
 
     // The next field, kept with `plus` added to it.
     #[inline]
@@ -116,33 +113,6 @@ impl Reading<'_> {
         let v = self.code()? + plus;
         self.push(v);
         Ok(v)
-    }
-
-    // How many of the next bits are ones.
-    fn ones(&self, count: u32) -> u32
-        requires { self.now.at < limit }
-        ensures { result ≡ ones_at self.now.bytes.now self.now.at count }
-    {
-        let mut ones = 0;
-        for j in 0..count {
-            ones += bit_fields::bit_at(self.bytes, self.at + j as usize);
-        }
-        ones
-    }
-
-    // Fields of a width, coded last first and stored first first, and past them.
-    fn reverse(&mut self, count: u32, width: u32)
-        requires at { self.old.at < limit }
-        requires n { self.old.n < limit }
-        requires width { width ≤ 8 }
-        ensures { Meets (List ℕ) (reversed count width) self.old (Ok (falling_at self.old.bytes.now self.old.at count width)) self.new }
-    {
-        let at = self.at;
-        for i in 0..count {
-            let place = at + (count - 1 - i) as usize * width as usize;
-            self.push(bit_fields::field_at(self.bytes, place, width));
-        }
-        self.at = at + count as usize * width as usize;
     }
 }
 
@@ -193,7 +163,7 @@ impl Steps for Reading<'_> {
     }
 
     fn align(&mut self, refusal: Option<Refusal>) -> Result<(), Refusal> {
-        let bits = self.pass(bits::to_boundary(self.at))?;
+        let bits = self.pass(to_boundary(self.at))?;
         let Some(refusal) = refusal else {
             return Ok(());
         };
@@ -209,17 +179,15 @@ impl Parts for Reading<'_> {
     ghost use Rattle.std.specs.Prelude.{⊤};
 
     // The heads of slots stand where the reading stands.
+    type Slot = ();
+
     ghost stands = { λ i s slot. ⊤ };
 
-    fn first_slot(&self) -> usize {
-        self.n
-    }
+    fn first_slot(&self) {}
 
-    fn next_slot(&self, slot: usize) -> usize {
-        slot
-    }
+    fn next_slot(&self, _slot: ()) {}
 
-    fn slot_number(&mut self, _slot: usize, _j: usize, width: u32) -> Result<u32, Refusal> {
+    fn slot_number(&mut self, _slot: (), _j: usize, width: u32) -> Result<u32, Refusal> {
         self.pass(width)
     }
 
@@ -231,22 +199,20 @@ impl Parts for Reading<'_> {
         table_steps::fields(self, length, 1)
     }
 
-    fn sublayer_flags(&mut self, count: u32) -> Result<u32, Refusal> {
+    fn reversed(&mut self, count: u32, width: u32) -> Result<usize, Refusal> {
         if count == 0 {
             return Ok(0);
         }
         self.reach()?;
-        let ones = self.ones(count);
-        self.reverse(count, 1);
-        Ok(ones)
-    }
-
-    fn sublayer_levels(&mut self, count: u32) -> Result<(), Refusal> {
-        if count == 0 {
-            return Ok(());
+        let at = self.at;
+        let w = field_width(width) as usize;
+        let mut sum = 0;
+        for i in (0..count as usize).rev() {
+            let v = bit_fields::field_at(self.bytes, at + i * w, width);
+            self.push(v);
+            sum += v as usize;
         }
-        self.reach()?;
-        self.reverse(count, 8);
-        Ok(())
+        self.at = at + count as usize * w;
+        Ok(sum)
     }
 }

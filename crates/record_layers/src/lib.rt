@@ -19,6 +19,7 @@ struct Entry<'a> {
 
 impl Entry<'_> {
     // The layers below whose flag is 1, the first of each of i pairs.
+    // As it is (2): `vps_layers::flags` takes a step for each flag, which may be refused; by it, this loop over a record's numbers would have a refusal that never comes.
     fn flags_mask(&self) -> u64
         ensures { result ≡ mask_of 64 (flagged (firsts self.now.i (drop 3 self.now.numbers.now))) }
     {
@@ -61,6 +62,7 @@ impl Entry<'_> {
 
 // Stores the layers that each of n layers reaches, by the Layers section of the record: as many masks as there are places for,
 // 64 at the most. What stands behind them stays.
+// As it is (6): n may be less or more than the places lent, and the promise is for each; a slice of n masks would leave the cut, and what stays behind it, to callers.
 pub fn layer_masks(rec: &[u32], closed: &mut [u64], n: usize)
     ensures { Stored (flags_from n 0 (drop 9 rec.now)) n closed.old closed.new }
 {

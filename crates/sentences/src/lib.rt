@@ -119,10 +119,6 @@ fn is_sentence(bytes: &[u8], number: u32) -> bool
 pub fn sentence_number(bytes: &[u8]) -> Option<Refusal>
     ensures { found_number result ≡ number_of bytes.now }
 {
-    for number in 1..=LAST_NUMBER {
-        if is_sentence(bytes, number) {
-            return Refusal::try_from(number).ok();
-        }
-    }
-    None
+    let number = (1..=LAST_NUMBER).find(|number| is_sentence(bytes, *number))?;
+    Refusal::try_from(number).ok()
 }

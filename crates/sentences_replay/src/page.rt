@@ -21,14 +21,13 @@ pub fn is_row(line: &[u8]) -> bool {
     }
 }
 
-// Where the number of a row ends.
-fn number_end(line: &[u8]) -> usize {
-    for (end, byte) in line.iter().enumerate().skip(2) {
-        if digit_of(*byte).is_none() {
-            return end;
-        }
+// What stands behind the number of a row.
+fn behind_number(line: &[u8]) -> &[u8] {
+    let digits = behind(line, 2);
+    match digits.iter().position(|byte| digit_of(*byte).is_none()) {
+        Some(end) => behind(digits, end),
+        None => &[],
     }
-    line.len()
 }
 
 // The number of a row; the first digits where there are many.
@@ -56,5 +55,5 @@ fn cell(bytes: &[u8]) -> &[u8] {
 
 // The sentence of a row.
 pub fn sentence(line: &[u8]) -> &[u8] {
-    cell(behind(behind(line, number_end(line)), 3))
+    cell(behind(behind_number(line), 3))
 }

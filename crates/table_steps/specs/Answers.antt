@@ -1,5 +1,6 @@
 -- The code's answer may have another type than the table's: it stands for the table's by a relation of the two.
-use Rattle.std.specs.Prelude.{ℕ, ◌≡◌, List, Result, Ok, Err, ⊤}
+use Rattle.std.specs.Prelude.{ℕ, ◌≡◌, List, Result, Ok, Err}
+use Rattle.std.proofs.Common.{MutBor}
 use Rattle.refusals.specs.declared.refusal.Refusal.{Refusal}
 use Rattle.vps_definition.specs.Syntax.{Syntax}
 use Rattle.vps_definition.specs.Words.{sum}
@@ -9,10 +10,10 @@ abbrev pub Gives : {S A B : Type 0} (goes : (A : Type 0) → Syntax A → S → 
 Gives {B = B} goes R m s (Ok a) s' = (b : B) × R a b × goes B m s (Ok b) s'
 Gives {B = B} goes R m s (Err e) s' = goes B m s (Err e) s'
 
--- the answer of flags is how many of them are 1
+-- the answer is the sum of the table's numbers
 abbrev pub IsSum : ℕ → List ℕ → Type 0
 IsSum n l = n ≡ sum l
 
--- the answer doesn't say what was gone along
-abbrev pub Any : {A : Type 0} → Unit {0} → A → Type 0
-Any u a = ⊤
+-- each call of a step goes along the table
+abbrev pub GoesAlong : {S : Type 0} → (Syntax (Unit {0}) → S → Result (Unit {0}) Refusal → S → Type 0) → Syntax (Unit {0}) → (MutBor S → Result (Unit {0}) Refusal → MutBor S → Type 0) → Type 0
+GoesAlong {S} goes m step = (x y : MutBor S) (r : Result (Unit {0}) Refusal) → step x r y → goes m x.now r y.now

@@ -7,8 +7,9 @@ ghost use Rattle.bits.specs.Bits.{field_width};
 ghost use Rattle.refusals.specs.declared.refusal.Refusal.{Refusal};
 ghost use Rattle.refusals.specs.Refusals.{number_of};
 ghost use Rattle.vps_definition.specs.Syntax.{Syntax};
-ghost use Rattle.vps_definition.specs.Words.{u, u_minus1, u_if, ue, ue_minus1, ue_if, inferred, general, general_if, check, aligned, repeat};
+ghost use Rattle.vps_definition.specs.Words.{u, u_minus1, u_if, ue, ue_minus1, ue_if, inferred, general, general_if, check, aligned, repeat, when};
 ghost use Rattle.table_steps.specs.Laws.{StepsLaws};
+ghost use Rattle.table_steps.specs.Answers.{GoesAlong};
 ghost use Rattle.table_steps.specs.Words.{alignment_number, layers_minus1, kept_field};
 
 use refusals::Refusal;
@@ -114,12 +115,45 @@ pub trait Steps {
     }
 }
 
+// So many times the same, up to a refusal: each call of `step` goes along the table that is repeated.
+#[inline]
+pub fn repeat<S: Steps, F: Fn(&mut S) -> Result<(), Refusal>>(
+    steps: &mut S,
+    n: u64,
+    step: F,
+) -> Result<(), Refusal>
+    requires { F.IsAlwaysCallable step }
+    ensures { (m : Syntax (Unit {0})) → GoesAlong (S.goes (Unit {0})) m (F.post step) → S.goes (Unit {0}) (repeat n m) steps.old result steps.new }
+{
+    for _ in 0..n {
+        step(steps)?;
+    }
+    Ok(())
+}
+
+// A table where a flag is 1, else nothing: the call of `step` goes along the table.
+#[inline]
+pub fn when<S: Steps, F: FnOnce(&mut S) -> Result<(), Refusal>>(
+    steps: &mut S,
+    flag: u32,
+    step: F,
+) -> Result<(), Refusal>
+    requires { F.IsAlwaysCallable step }
+    ensures { (m : Syntax (Unit {0})) → GoesAlong (S.goes (Unit {0})) m (F.post step) → S.goes (Unit {0}) (when flag m) steps.old result steps.new }
+{
+    if flag == 0 {
+        return Ok(());
+    }
+    step(steps)
+}
+
 // Fields of a width up to 32, one after another.
+#[inline]
 pub fn fields<S: Steps>(steps: &mut S, count: u32, width: u32) -> Result<(), Refusal>
     ensures { S.goes (Unit {0}) (repeat count (kept_field (field_width width))) steps.old result steps.new }
 {
-    for _ in 0..count {
+    repeat(steps, count as u64, |steps| {
         steps.u(width)?;
-    }
-    Ok(())
+        Ok(())
+    })
 }

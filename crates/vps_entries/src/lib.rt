@@ -4,9 +4,11 @@
 
 ghost use Rattle.std.specs.Prelude.{ℕ, ◌≡◌, ◌&&◌, ltb, eqb};
 ghost use Rattle.refusals.specs.Refusals.{number_of};
+ghost use Rattle.vps_definition.specs.Syntax.{Syntax};
 ghost use Rattle.vps_definition.specs.Words.{loop};
-ghost use Rattle.vps_definition.specs.DpbParameters.{sublayers, index, index_coded, index_inferred};
+ghost use Rattle.vps_definition.specs.DpbParameters.{sublayers, per_sublayer, index, index_coded, index_inferred};
 ghost use Rattle.vps_definition.specs.TimingHrd.{hrd_present};
+ghost use Rattle.table_steps.specs.Answers.{GoesAlong};
 ghost use Rattle.vps_entries.specs.MaxTid.{max_tid};
 
 use refusals::Refusal;
@@ -22,21 +24,49 @@ pub struct Hrd {
     pub cpb_cnt_minus1: u32,
 }
 
-// Whether an index into `size` entries is coded, where `count` of them are kept.
-pub fn is_index_coded(size: u32, count: u32) -> bool
-    ensures { result ≡ index_coded size count }
-{
-    1 < size && size != count
+// Indices into a table of entries: how many entries there are, how many indices, and how one that is not below is refused.
+#[derive(Clone, Copy)]
+pub struct Indices {
+    pub size: u32,
+    pub count: u32,
+    pub refusal: Refusal,
 }
 
-// What it is otherwise: 0 for one entry, else the i-th is i.
-pub fn inferred_index(size: u32, i: u32) -> u32
-    ensures { result ≡ index_inferred size i }
-{
-    if size == 1 {
-        return 0;
+impl Indices {
+    // Whether they are coded.
+    pub fn are_coded(self) -> bool
+        ensures { result ≡ index_coded self.size self.count }
+    {
+        1 < self.size && self.size != self.count
     }
-    i
+
+    // What the i-th is otherwise: 0 for one entry, else i.
+    pub fn inferred(self, i: u32) -> u32
+        ensures { result ≡ index_inferred self.size i }
+    {
+        if self.size == 1 {
+            return 0;
+        }
+        i
+    }
+
+    // The i-th of them; refused unless it lies below.
+    pub fn one<S: Steps>(self, steps: &mut S, i: u32) -> Result<(), Refusal>
+        ensures { S.goes (Unit {0}) (index self.size self.count (number_of self.refusal) i) steps.old result steps.new }
+    {
+        let v = steps.ue_if(self.are_coded(), self.inferred(i))?;
+        steps.check(v < self.size, self.refusal)
+    }
+
+    // All of them, up to a refusal.
+    pub fn all<S: Steps>(self, steps: &mut S) -> Result<(), Refusal>
+        ensures { S.goes (Unit {0}) (loop {A = Unit {0}} (λ i x. index self.size self.count (number_of self.refusal) i) self.count 0 tt) steps.old result steps.new }
+    {
+        for i in 0..self.count {
+            self.one(steps, i)?;
+        }
+        Ok(())
+    }
 }
 
 // How many sublayers an entry has: one for each up to the max tid where the flag is 1, else one.
@@ -73,35 +103,6 @@ pub fn is_low_delay_coded(within: u32, present: bool, count_minus1: u32) -> bool
     present && count_minus1 == 0
 }
 
-// The i-th of `count` indices into `size` entries; refused unless it lies below.
-pub fn index<S: Steps>(
-    steps: &mut S,
-    size: u32,
-    count: u32,
-    refusal: Refusal,
-    i: u32,
-) -> Result<(), Refusal>
-    ensures { S.goes (Unit {0}) (index size count (number_of refusal) i) steps.old result steps.new }
-{
-    let v = steps.ue_if(is_index_coded(size, count), inferred_index(size, i))?;
-    steps.check(v < size, refusal)
-}
-
-// All of them, up to a refusal.
-pub fn indices<S: Steps>(
-    steps: &mut S,
-    size: u32,
-    count: u32,
-    refusal: Refusal,
-) -> Result<(), Refusal>
-    ensures { S.goes (Unit {0}) (loop {A = Unit {0}} (λ i x. index size count (number_of refusal) i) count 0 tt) steps.old result steps.new }
-{
-    for i in 0..count {
-        index(steps, size, count, refusal, i)?;
-    }
-    Ok(())
-}
-
 // An entry's max tid; refused above the sublayers.
 pub fn max_tid<S: Steps>(steps: &mut S, header: Header, refusal: Refusal) -> Result<u32, Refusal>
     ensures { S.goes ℕ (max_tid header.default_max_tid_flag header.max_sublayers_minus1 (number_of refusal)) steps.old result steps.new }
@@ -113,4 +114,19 @@ pub fn max_tid<S: Steps>(steps: &mut S, header: Header, refusal: Refusal) -> Res
     )?;
     steps.check(tid <= header.max_sublayers_minus1, refusal)?;
     Ok(tid)
+}
+
+// An entry: its max tid, and then its sublayers, each of which a call of `sublayer` goes along.
+pub fn per_sublayer<S: Steps, F: Fn(&mut S) -> Result<(), Refusal>>(
+    steps: &mut S,
+    header: Header,
+    flag: u32,
+    refusal: Refusal,
+    sublayer: F,
+) -> Result<(), Refusal>
+    requires { F.IsAlwaysCallable sublayer }
+    ensures { (body : Syntax (Unit {0})) → GoesAlong (S.goes (Unit {0})) body (F.post sublayer) → S.goes (Unit {0}) (per_sublayer header.default_max_tid_flag header.max_sublayers_minus1 (number_of refusal) flag body) steps.old result steps.new }
+{
+    let tid = max_tid(steps, header, refusal)?;
+    table_steps::repeat(steps, turns(flag, tid), sublayer)
 }

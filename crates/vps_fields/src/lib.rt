@@ -3,6 +3,7 @@
 
 ghost use Rattle.std.specs.Prelude.{◌≤◌, ◌<◌};
 
+use record_parts::Record;
 use refusals::Refusal;
 use table_steps::Steps;
 
@@ -30,13 +31,23 @@ impl Header {
     pub fn of<S: Steps>(steps: &mut S) -> Result<Header, Refusal>
         ensures { Gives S.goes IsHeader header steps.old result steps.new }
     {
-        let id = steps.general(1, 4)?;
+        let id = steps.general(Record::VIDEO_PARAMETER_SET_ID, 4)?;
         let layers_minus1 = steps.layers_minus1()?;
-        let max_sublayers_minus1 = steps.general(2, 3)?;
+        let max_sublayers_minus1 = steps.general(Record::MAX_SUBLAYERS_MINUS1, 3)?;
         steps.check(max_sublayers_minus1 <= 6, Refusal::SublayersReserved)?;
         let several = 0 < layers_minus1 && 0 < max_sublayers_minus1;
-        let default_max_tid_flag = steps.general_if(several, 3, 1, 1)?;
-        let all_independent_flag = steps.general_if(0 < layers_minus1, 4, 1, 1)?;
+        let default_max_tid_flag = steps.general_if(
+            several,
+            Record::DEFAULT_PTL_DPB_HRD_MAX_TID_FLAG,
+            1,
+            1,
+        )?;
+        let all_independent_flag = steps.general_if(
+            0 < layers_minus1,
+            Record::ALL_INDEPENDENT_LAYERS_FLAG,
+            1,
+            1,
+        )?;
         Ok(Header {
             id,
             layers: layers_minus1 + 1,

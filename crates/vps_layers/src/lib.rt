@@ -3,13 +3,14 @@
 
 ghost use Rattle.std.specs.Prelude.{◌≡◌, List, [], ◌∷◌, ◌++◌, ℕ, ◌<◌, ◌≤◌, eqb, IfOk};
 ghost use Rattle.refusals.specs.declared.refusal.Refusal.{Refusal};
+ghost use Rattle.vps_definition.specs.Syntax.{Syntax};
 ghost use Rattle.vps_definition.specs.Syntax.Syntax.{test};
 ghost use Rattle.vps_definition.specs.Words.{loop};
 ghost use Rattle.vps_definition.specs.Vps.{direct_reference, dependent_layer, independent_layer, layer, layers_section};
 ghost use Rattle.table_steps.specs.Answers.{Gives};
 ghost use Rattle.layer_sets.specs.References.{layers_of};
 ghost use Rattle.vps_fields.specs.Header.{header_of};
-ghost use Rattle.vps_layers.specs.Flags.{Appended, FlagsMet};
+ghost use Rattle.vps_layers.specs.Flags.{Appended, FlagsMet, IsFlag};
 ghost use Rattle.vps_layers.specs.Layers.{LayerMet, LayersMet};
 
 use refusals::Refusal;
@@ -26,6 +27,23 @@ fn direct_reference<S: Steps>(steps: &mut S, h: Header, present: u32) -> Result<
     Ok(flag)
 }
 
+// The mask of n flags of layers, each by one more step: a table's loop that appends such a flag in each turn is gone along.
+pub fn flags<S: Steps, F: Fn(&mut S) -> Result<u32, Refusal>>(
+    steps: &mut S,
+    n: usize,
+    flag: F,
+) -> Result<u64, Refusal>
+    requires callable { F.IsAlwaysCallable flag }
+    requires few { n ≤ 64 }
+    ensures { (f : ℕ → List ℕ → Syntax (List ℕ)) → IsFlag S.goes f (F.post flag) → Gives S.goes (FlagsMet n) (loop f n 0 []) steps.old result steps.new }
+{
+    let mut mask = 0;
+    for j in 0..n {
+        mask = layer_sets::with_flag(mask, flag(steps)?, j);
+    }
+    Ok(mask)
+}
+
 // Which layer is coded: the first fields, and the layer's number.
 #[derive(Clone, Copy)]
 struct Place {
@@ -39,12 +57,9 @@ impl Place {
     fn direct_references<S: Steps>(self, steps: &mut S, present: u32) -> Result<u64, Refusal>
         ensures { Gives S.goes (FlagsMet self.i) (loop (direct_reference present self.h.max_sublayers_minus1) self.i 0 []) steps.old result steps.new }
     {
-        let mut mask = 0;
-        for j in 0..self.i {
-            let flag = direct_reference(steps, self.h, present)?;
-            mask = layer_sets::with_flag(mask, flag, j);
-        }
-        Ok(mask)
+        flags(steps, self.i, |steps| {
+            direct_reference(steps, self.h, present)
+        })
     }
 
     // A layer that depends on others: it refers to one of them at least.

@@ -2,7 +2,6 @@
 #![tactic(auto)]
 
 ghost use Rattle.refusals.specs.declared.refusal.Refusal.{Refusal};
-ghost use Rattle.vps_definition.specs.Words.{when};
 ghost use Rattle.vps_definition.specs.ProfileTierLevel.{constraints_if, general_constraints_info, profile_and_tier, sub_profiles, profile_tier_level};
 ghost use Rattle.vps_profile.specs.Parts.{from_sublayers, from_level};
 
@@ -17,13 +16,10 @@ pub struct SlotHead {
     pub max_tid: u32,
 }
 
-// The profile and the tier, where they are present.
-fn profile_and_tier<S: Parts>(steps: &mut S, present: u32) -> Result<(), Refusal>
-    ensures { S.goes (Unit {0}) (when present profile_and_tier) steps.old result steps.new }
+// The profile and the tier.
+fn profile_and_tier<S: Parts>(steps: &mut S) -> Result<(), Refusal>
+    ensures { S.goes (Unit {0}) profile_and_tier steps.old result steps.new }
 {
-    if present == 0 {
-        return Ok(());
-    }
     steps.u(7)?;
     steps.u(1)?;
     Ok(())
@@ -40,25 +36,19 @@ fn constraints_if<S: Parts>(steps: &mut S, present: u32) -> Result<(), Refusal>
     steps.constraints()
 }
 
-// Whether there are constraints, they, and the bits to the boundary, where all that is present.
-fn general_constraints_info<S: Parts>(steps: &mut S, present: u32) -> Result<(), Refusal>
-    ensures { S.goes (Unit {0}) (when present general_constraints_info) steps.old result steps.new }
+// Whether there are constraints, they, and the bits to the boundary.
+fn general_constraints_info<S: Parts>(steps: &mut S) -> Result<(), Refusal>
+    ensures { S.goes (Unit {0}) general_constraints_info steps.old result steps.new }
 {
-    if present == 0 {
-        return Ok(());
-    }
     let flag = steps.u(1)?;
     constraints_if(steps, flag)?;
     steps.align(None)
 }
 
-// The sub-profiles behind their number, where they are present.
-fn sub_profiles<S: Parts>(steps: &mut S, present: u32) -> Result<(), Refusal>
-    ensures { S.goes (Unit {0}) (when present sub_profiles) steps.old result steps.new }
+// The sub-profiles behind their number.
+fn sub_profiles<S: Parts>(steps: &mut S) -> Result<(), Refusal>
+    ensures { S.goes (Unit {0}) sub_profiles steps.old result steps.new }
 {
-    if present == 0 {
-        return Ok(());
-    }
     let count = steps.u(8)?;
     table_steps::fields(steps, count, 32)
 }
@@ -67,10 +57,10 @@ fn sub_profiles<S: Parts>(steps: &mut S, present: u32) -> Result<(), Refusal>
 fn from_sublayers<S: Parts>(steps: &mut S, head: SlotHead) -> Result<(), Refusal>
     ensures { S.goes (Unit {0}) (from_sublayers head.present head.max_tid) steps.old result steps.new }
 {
-    let levels = steps.sublayer_flags(head.max_tid)?;
+    let levels = steps.reversed(head.max_tid, 1)?;
     steps.align(None)?;
-    steps.sublayer_levels(levels)?;
-    sub_profiles(steps, head.present)
+    steps.reversed(levels as u32, 8)?;
+    table_steps::when(steps, head.present, sub_profiles)
 }
 
 // The level and the two flags behind it, the constraints, and the rest.
@@ -80,7 +70,7 @@ fn from_level<S: Parts>(steps: &mut S, head: SlotHead) -> Result<(), Refusal>
     steps.u(8)?;
     steps.u(1)?;
     steps.u(1)?;
-    general_constraints_info(steps, head.present)?;
+    table_steps::when(steps, head.present, general_constraints_info)?;
     from_sublayers(steps, head)
 }
 
@@ -90,6 +80,6 @@ pub fn profile_tier_level<S: Parts>(steps: &mut S, head: SlotHead) -> Result<(),
 {
     steps.infer(head.present)?;
     steps.infer(head.max_tid)?;
-    profile_and_tier(steps, head.present)?;
+    table_steps::when(steps, head.present, profile_and_tier)?;
     from_level(steps, head)
 }

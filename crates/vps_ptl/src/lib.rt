@@ -31,13 +31,13 @@ fn slot_count<S: Parts>(steps: &mut S, layers: u32) -> Result<u32, Refusal>
 fn slot_number_if<S: Parts>(
     steps: &mut S,
     coded: bool,
-    slot: usize,
+    slot: S::Slot,
     j: usize,
     width: u32,
     other: u32,
 ) -> Result<u32, Refusal>
     ensures goes { (i : ℕ) → S.stands i steps.old slot → S.goes ℕ (slot_number_if coded i j (field_width width) other) steps.old result steps.new }
-    ensures stays { (i place : ℕ) → S.stands i steps.old place → S.stands i steps.new place }
+    ensures stays { (i : ℕ) → (place : S.Slot) → S.stands i steps.old place → S.stands i steps.new place }
 {
     if coded {
         steps.slot_number(slot, j, width)
@@ -50,11 +50,11 @@ fn slot_number_if<S: Parts>(
 fn slot_head<S: Parts>(
     steps: &mut S,
     h: &Header,
-    slot: usize,
+    slot: S::Slot,
     i: usize,
 ) -> Result<SlotHead, Refusal>
     ensures goes { (heads : List Head) → S.stands i steps.old slot → Gives S.goes (IsBehind heads) (ptl_head (header_of h.now) i heads) steps.old result steps.new }
-    ensures stays { (j place : ℕ) → S.stands j steps.old place → S.stands j steps.new place }
+    ensures stays { (j : ℕ) → (place : S.Slot) → S.stands j steps.old place → S.stands j steps.new place }
 {
     let top = h.max_sublayers_minus1;
     let present = slot_number_if(steps, 0 < i, slot, 0, 1, 1)?;

@@ -1,27 +1,19 @@
 -- The second pass leaves the record that the first found.
 use Rattle.std.specs.Prelude.{ℕ, ◌+◌, ◌≡◌, List, [], ◌∷◌, ◌++◌, length, set}
-use Rattle.std.proofs.Common.{sym, ap, ◌∙◌, add-one, arith, length-append, drop_of_length-le}
-use Rattle.std.proofs.lemmas.List.{append-nil}
+use Rattle.std.proofs.Common.{sym, ap, ◌∙◌, add-one}
 use Rattle.std.proofs.lemmas.List.Edits.{sets}
 use Rattle.vps_definition.specs.Syntax.{numbers}
 use Rattle.vps_definition.specs.Reading.{bits_at}
 use Rattle.vps_laws.specs.Extension.{bits_at_length}
 use Rattle.read_vps.specs.declared.Table as Code
 use Rattle.vps_reader.specs.Measures.{Found, record_in, nine, seven}
-use Rattle.vps_reader.specs.Stored.{stored_behind, stored_record}
-use Rattle.lists.specs.Stored.{sets_append, stored_whole}
+use Rattle.vps_reader.specs.Stored.{stored_record}
+use Rattle.lists.specs.Stored.{sets_append}
 
--- a list of eight numbers, with the starts and one number more in it
+-- the starts and one number more
 module _ {s : List ℕ} {w : Code.Table} {count bits : ℕ} (F : Found s w count bits) where
   seven_starts : length w.whole.starts ≡ 7
   seven_starts = sym (ap length F.table.sections) ∙ seven F.table
-
-  pub trailer_whole : (y : List ℕ) (v : ℕ) → length y ≡ 8 → set (sets y 0 w.whole.starts) 7 v ≡ w.whole.starts ++ (v ∷ [])
-  trailer_whole y v e =
-      let x : List ℕ = w.whole.starts ++ (v ∷ []) in
-      let n : length x ≡ 8 = length-append w.whole.starts (v ∷ []) ∙ omega (arith, seven_starts) in
-      stored_behind y w.whole.starts (v ∷ []) (sym seven_starts)
-      ∙ stored_whole y x (omega (arith, n, e)) ∙ ap (λ (z : List ℕ). x ++ z) (drop_of_length-le y (omega (arith, n, e))) ∙ append-nil x
 
   -- stored as one list from a place on
   pub trailer_stored : (l : List ℕ) (i v : ℕ) → sets l i (w.whole.starts ++ (v ∷ [])) ≡ set (sets l i w.whole.starts) (i + 7) v

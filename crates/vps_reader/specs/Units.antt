@@ -1,5 +1,5 @@
 -- The checks of a unit and of its payload, one by one.
-use Rattle.std.specs.Prelude.{ℕ, ◌-◌, ◌/◌, ◌≤◌, ◌<◌, Bool, ltb, eqb, get_or, take, Result, Ok, Err}
+use Rattle.std.specs.Prelude.{ℕ, ◌-◌, ◌/◌, ◌≤◌, ◌<◌, Bool, ltb, eqb, get_or, take, Result, Ok, Err, MatchResult}
 use Rattle.std.proofs.Math.Path.{◌≡◌, refl, ap}
 use Rattle.std.proofs.Common.{sym, ◌∙◌, subst, arith, length-append}
 use mathlib.Core.List.{List, [], ◌∷◌, ◌++◌}
@@ -95,6 +95,15 @@ module _ (s work lent : List ℕ) where
         let f : leb (length s) (length work) ≡ true = le-leb (length s) (length work) n in
         gives_as {y = parse_rbsp s work lent} (rw (le-leb (length s) most_rbsp_bytes k, f) refl)
         (record { answered = A.answered ∙ ap (parse_of lent) e; worked = w ∙ rw f refl; left = A.left ∙ ap (record_after lent) e })
+
+-- an answer whose refusals are named otherwise: the answer before
+pub came_ok : (r : Result ℕ Refusal) {n : ℕ} → MatchResult r (λ x. ◌≡◌ {A = Result ℕ Refusal} (Ok n) (Ok x)) (λ e. ⊥) → r ≡ Ok n
+came_ok (Ok x) h = sym h
+came_ok (Err k) h = absurd h
+
+pub came_err : (r : Result ℕ Refusal) {m n : Refusal} {P : Refusal → Type 0} → MatchResult r (λ x. ◌≡◌ {A = Result ℕ Refusal} (Err m) (Ok x)) P → ((e : Refusal) → P e → m ≡ n) → (k : Refusal) × (r ≡ Err k) × (m ≡ n)
+came_err (Ok x) h f = absurd (let z : ◌≡◌ {A = ℕ} 0 1 = cc in omega arith)
+came_err (Err k) h f = (k, refl, f k h)
 
 -- what removing into the work buffer says, and what the buffer holds then
 pub record Removes (s work : List ℕ) (r : Result ℕ Refusal) (work' : List ℕ) : Type 0 where

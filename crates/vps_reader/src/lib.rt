@@ -1,7 +1,7 @@
 // Reads a VPS unit into a lent record: a first pass measures, a second fills, by the same code.
 #![tactic(auto)]
 
-ghost use Rattle.std.specs.Prelude.{◌≡◌, List, ◌∷◌, ℕ, ◌+◌, ◌^◌, ◌≤◌, ◌<◌, ltb, length, get_or, set};
+ghost use Rattle.std.specs.Prelude.{◌≡◌, List, [], ◌∷◌, ◌++◌, ℕ, ◌+◌, ◌^◌, ◌≤◌, ◌<◌, ltb, length, get_or};
 ghost use Rattle.std.proofs.lemmas.List.Edits.{sets};
 ghost use Rattle.stuffing.specs.Stuffing.{unstuff};
 ghost use Rattle.refusals.specs.Refusals.{answer_of};
@@ -30,22 +30,22 @@ struct Measured {
 }
 
 // How many extension bits stand behind the flag.
-fn extension_bits(bytes: &[u8], flag: u32, at: usize) -> usize
-    ensures { length bytes.now ≤ most_rbsp_bytes → result ≡ extension_bits flag bytes.now at }
+fn extension_bits(reader: &BitReader<'_>, flag: u32) -> usize
+    ensures { length reader.now.bytes.now ≤ most_rbsp_bytes → result ≡ extension_bits flag reader.now.bytes.now reader.now.bit_pos }
 {
     if flag == 0 {
         return 0;
     }
-    read_extension::data_bits(bytes, at)
+    read_extension::data_bits(reader)
 }
 
-// The trailing bits at a place: the bits used then.
-fn read_end(bytes: &[u8], at: usize) -> Result<usize, Refusal>
-    ensures { at < 2 ^ 63 → answer_of result ≡ trailing_at bytes.now at }
+// The trailing bits at a reader's place: the bits used then.
+fn read_end(reader: &BitReader<'_>) -> Result<usize, Refusal>
+    ensures { reader.now.bit_pos < 2 ^ 63 → answer_of result ≡ trailing_at reader.now.bytes.now reader.now.bit_pos }
 {
-    let mut reader = BitReader { bytes, bit_pos: at };
-    reader.read_rbsp_trailing_bits()?;
-    Ok(reader.bit_pos)
+    let mut end = *reader;
+    end.read_rbsp_trailing_bits()?;
+    Ok(end.bit_pos)
 }
 
 // The first pass: the table's numbers are stored in another list, as far as it reaches.
@@ -56,8 +56,13 @@ fn measure(bytes: &[u8], small: &mut [u32]) -> Result<Measured, Refusal>
         return Err(Refusal::RbspTooLong);
     }
     let table = read_vps::read_vps(bytes, small)?;
-    let count = extension_bits(bytes, table.whole.extension_flag(), table.at);
-    let bits = read_end(bytes, table.at + count)?;
+    let mut reader = BitReader {
+        bytes,
+        bit_pos: table.at,
+    };
+    let count = extension_bits(&reader, table.whole.extension_flag());
+    reader.bit_pos += count;
+    let bits = read_end(&reader)?;
     Ok(Measured { table, count, bits })
 }
 
@@ -71,22 +76,21 @@ fn number(v: usize) -> u32
 // Stores the trailer: the starts, and the total length.
 fn store_trailer(trailer: &mut [u32], starts: [usize; Record::STARTS], total: usize)
     requires { length trailer.old ≡ 8 }
-    ensures { total < 2 ^ 32 → ((k : ℕ) → get_or starts k 0 < 2 ^ 32) → trailer.new ≡ set (sets trailer.old 0 starts) 7 total }
+    ensures { total < 2 ^ 32 → ((k : ℕ) → get_or starts k 0 < 2 ^ 32) → trailer.new ≡ starts ++ total ∷ [] }
 {
-    for (k, start) in starts.iter().enumerate() {
-        trailer[k] = number(*start);
+    if let Some((last, places)) = trailer.split_last_mut() {
+        places.copy_from_slice(&starts.map(number));
+        *last = number(total);
     }
-    trailer[Record::STARTS] = number(total);
 }
 
-// Stores the extension: how many bits there are, and the bits, which stand from a place on.
-// As it is (6): the place is one among the bits, so no rest of the bytes starts there.
-fn store_extension(extension: &mut [u32], bytes: &[u8], at: usize)
-    ensures { (n : ℕ) → length extension.old ≡ n + 1 → at + n < 2 ^ 32 → extension.new ≡ n ∷ bits_at bytes.now at n }
+// Stores the extension: how many bits there are, and the bits, which stand from a reader's place on.
+fn store_extension(extension: &mut [u32], reader: &BitReader<'_>)
+    ensures { (n : ℕ) → length extension.old ≡ n + 1 → reader.now.bit_pos + n < 2 ^ 32 → extension.new ≡ n ∷ bits_at reader.now.bytes.now reader.now.bit_pos n }
 {
     if let Some((count, bits)) = extension.split_first_mut() {
         *count = number(bits.len());
-        read_extension::store_bits(bytes, at, bits);
+        read_extension::store_bits(reader, bits);
     }
 }
 
@@ -124,7 +128,11 @@ impl SecondPass<'_> {
         self.store_table(rec);
         let trailer = table.n + 1 + self.m.count;
         let end = trailer + Record::TRAILER;
-        store_extension(&mut rec[table.n..trailer], self.bytes, table.at);
+        let reader = BitReader {
+            bytes: self.bytes,
+            bit_pos: table.at,
+        };
+        store_extension(&mut rec[table.n..trailer], &reader);
         store_trailer(&mut rec[trailer..end], table.whole.starts, end);
     }
 
@@ -176,12 +184,10 @@ fn parse_payload(payload: &[u8], work: &mut [u8], record: &mut [u32]) -> Result<
     ensures { Gives (parse_payload (unstuff payload.now) work.old «record».old) result work.new «record».new }
 {
     if is_too_long(payload) {
-        return Err(NotParsed::Refused(Refusal::RbspTooLong));
+        return Err(Refusal::RbspTooLong.into());
     }
-    match stuffing::ebsp_to_rbsp(payload, work) {
-        Ok(n) => parse_rbsp(&work[..n], record),
-        Err(_) => Err(NotParsed::Refused(Refusal::WorkTooShort)),
-    }
+    let n = stuffing::ebsp_to_rbsp(payload, work).map_err(|_| Refusal::WorkTooShort)?;
+    parse_rbsp(&work[..n], record)
 }
 
 // A unit, into a lent record. The RBSP goes into the work buffer, which the first four refusals leave as it was.
@@ -189,10 +195,10 @@ pub fn parse_vps(unit: &[u8], work: &mut [u8], record: &mut [u32]) -> Result<Par
     ensures { Gives (parse_unit unit.now work.old «record».old) result work.new «record».new }
 {
     if unit.len() < 2 {
-        return Err(NotParsed::Refused(Refusal::UnitTooShort));
+        return Err(Refusal::UnitTooShort.into());
     }
     if unit[1] / 8 != Parsed::VPS_NUT {
-        return Err(NotParsed::Refused(Refusal::NotAVps));
+        return Err(Refusal::NotAVps.into());
     }
     parse_payload(&unit[2..], work, record)
 }

@@ -22,6 +22,8 @@ pub enum NotParsed {
 }
 
 impl Parsed {
+    ghost use Rattle.std.specs.Prelude.{◌≡◌, take};
+
     // The bytes of the longest RBSP.
     pub const MOST_RBSP_BYTES: usize = Record::MOST_RBSP_BYTES;
 
@@ -30,6 +32,13 @@ impl Parsed {
 
     // The numbers of the reader's own list, which keeps the table of a small unit from the first pass.
     pub const SMALL_NUMBERS: usize = 128;
+
+    // The record, at the beginning of the list that it was stored in.
+    pub fn record_in(self, lent: &[u32]) -> &[u32]
+        ensures { result.now ≡ take self.numbers lent.now }
+    {
+        lent.get(..self.numbers).unwrap_or(lent)
+    }
 }
 
 impl NotParsed {

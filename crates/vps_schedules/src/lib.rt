@@ -1,7 +1,6 @@
 // sublayer_hrd_parameters(), the schedules of a sublayer, read or written.
 #![tactic(auto)]
 
-ghost use Rattle.vps_definition.specs.Words.{when};
 ghost use Rattle.vps_definition.specs.TimingHrd.{du_values, schedule, sublayer_hrd};
 ghost use Rattle.vps_entries.specs.Hrd.{hrd_of};
 
@@ -9,13 +8,10 @@ use refusals::Refusal;
 use table_steps::Steps;
 use vps_entries::Hrd;
 
-// The values of a schedule's decoding units, where the flag is set.
-fn du_values<S: Steps>(steps: &mut S, du: u32) -> Result<(), Refusal>
-    ensures { S.goes (Unit {0}) (when du du_values) steps.old result steps.new }
+// The values of a schedule's decoding units.
+fn du_values<S: Steps>(steps: &mut S) -> Result<(), Refusal>
+    ensures { S.goes (Unit {0}) du_values steps.old result steps.new }
 {
-    if du == 0 {
-        return Ok(());
-    }
     steps.ue()?;
     steps.ue()?;
     Ok(())
@@ -27,7 +23,7 @@ fn schedule<S: Steps>(steps: &mut S, du: u32) -> Result<(), Refusal>
 {
     steps.ue()?;
     steps.ue()?;
-    du_values(steps, du)?;
+    table_steps::when(steps, du, du_values)?;
     steps.u(1)?;
     Ok(())
 }
@@ -37,8 +33,5 @@ pub fn sublayer_hrd<S: Steps>(steps: &mut S, hrd: Hrd) -> Result<(), Refusal>
     ensures { S.goes (Unit {0}) (sublayer_hrd (hrd_of hrd)) steps.old result steps.new }
 {
     let count = hrd.cpb_cnt_minus1 as u64 + 1;
-    for _ in 0..count {
-        schedule(steps, hrd.du)?;
-    }
-    Ok(())
+    table_steps::repeat(steps, count, |steps| schedule(steps, hrd.du))
 }

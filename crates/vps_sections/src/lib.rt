@@ -18,6 +18,7 @@ impl Part {
 }
 
 // Which part of a record a section is. Of a list that is not well formed, and of a number over 8, it is the empty part at the end.
+// As it is (1): C hands in any number, and there is an answer for each; an enum of the nine would turn those over 8 away.
 pub fn section_part(record: &[u32], number: u32) -> Part
     ensures { IsPart «record».now number result.start result.count }
 {
@@ -42,6 +43,7 @@ pub fn section_part(record: &[u32], number: u32) -> Part
 }
 
 // A section's numbers: the part of the caller's own record where they stand.
+// As it is (1): there is an answer for every number, as `section_part` has it, which an enum of the nine would not take.
 pub fn section(record: &[u32], number: u32) -> &[u32]
     ensures { PartOf «record».now number «record».entry.ref_ptr result.ref_ptr result.now }
 {

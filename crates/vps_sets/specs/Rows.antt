@@ -1,11 +1,11 @@
 -- Rows of output layers that are gone along one by one, counted where they have more than one layer.
-use Rattle.std.specs.Prelude.{ℕ, ◌+◌, ◌<◌, ◌≤◌, ◌≡◌, List, [], ◌∷◌, ◌++◌, length, take, Result, Ok, Err}
+use Rattle.std.specs.Prelude.{ℕ, ◌+◌, ◌<◌, ◌≤◌, ◌≡◌, refl, List, [], ◌∷◌, ◌++◌, length, take, Result, Ok, Err}
 use Rattle.std.proofs.Common.{arith, ap, ◌∙◌}
 use Rattle.refusals.specs.declared.refusal.Refusal.{Refusal}
 use Rattle.vps_definition.specs.Syntax.{Syntax}
-use Rattle.vps_definition.specs.Words.{loop}
+use Rattle.vps_definition.specs.Words.{u, loop}
 use Rattle.vps_definition.specs.OutputLayerSets.{digit, with_reached}
-use Rattle.vps_definition.specs.Vps.{row}
+use Rattle.vps_definition.specs.Vps.{output_flag, row}
 use Rattle.layer_sets.specs.Masks.{mask_of, bit_of, bit_at}
 use Rattle.layer_sets.specs.Closed.{cover_first}
 use Rattle.layer_sets.specs.Flags.{Held}
@@ -13,6 +13,7 @@ use Rattle.layer_sets.specs.Rows.{several, RowsHeld, rows_none, rows_more}
 use Rattle.table_steps.specs.Laws.{StepsLaws, goes_as}
 use Rattle.table_steps.specs.Answers.{Gives}
 use Rattle.table_steps.specs.Turns.{turns_begin, turns_more, turns_stop}
+use Rattle.vps_layers.specs.Flags.{Appended}
 use Rattle.vps_sets.specs.declared.Counts.{Counts}
 
 -- a row behind others: there are flags, and the mask in hand is theirs
@@ -36,6 +37,14 @@ pub record RowsSoFar {S : Type 0} (goes : (A : Type 0) → Syntax A → S → Re
 pub covered : (closed : List ℕ) {masks : List ℕ} (n mask : ℕ) {layers : ℕ} → masks ≡ take n closed → layers ≡ mask_of 64 (with_reached (length masks) (bit_at masks) (bit_of mask))
     → layers ≡ mask_of 64 (with_reached n (bit_at closed) (bit_of mask))
 covered closed n mask e m = m ∙ ap (λ (x : List ℕ). mask_of 64 (with_reached (length x) (bit_at x) (bit_of mask))) e ∙ cover_first closed n (bit_of mask)
+
+module _ {S : Type 0} {place : S → ℕ} {goes : (A : Type 0) → Syntax A → S → Result A Refusal → S → Type 0}
+    {marked : (A : Type 0) → Syntax A → S → Result A Refusal → S → List ℕ → Type 0} (L : StepsLaws place goes marked) where
+  -- a bit is a row's flag
+  pub output_flag_met : {s s' : S} (r : Result ℕ Refusal) → goes ℕ (u 1) s r s' → (j : ℕ) (flags : List ℕ) → Gives goes (Appended flags) (output_flag j flags) s r s'
+  unfolding output_flag
+  output_flag_met (Ok v) G j flags = (_, refl, L.goes_then _ _ G L.goes_done)
+  output_flag_met (Err e) G j flags = L.goes_stop _ _ G
 
 module _ {S : Type 0} {place : S → ℕ} {goes : (A : Type 0) → Syntax A → S → Result A Refusal → S → Type 0}
     {marked : (A : Type 0) → Syntax A → S → Result A Refusal → S → List ℕ → Type 0} (L : StepsLaws place goes marked) (n : ℕ) where

@@ -16,6 +16,7 @@ ghost use Rattle.vps_layers.specs.Flags.{FlagsMet};
 ghost use Rattle.vps_sets.specs.Rows.{RowMet, RowsMet};
 ghost use Rattle.vps_sets.specs.Sets.{ChosenMet, SetsMet, SectionMet};
 
+use record_parts::Record;
 use refusals::Refusal;
 use table_steps::Steps;
 use vps_fields::Header;
@@ -24,12 +25,7 @@ use vps_fields::Header;
 fn output_flags<S: Steps>(steps: &mut S, h: Header) -> Result<u64, Refusal>
     ensures { Gives S.goes (FlagsMet h.layers) (loop output_flag h.layers 0 []) steps.old result steps.new }
 {
-    let mut mask = 0;
-    for j in 0..h.layers as usize {
-        let flag = steps.u(1)?;
-        mask = layer_sets::with_flag(mask, flag, j);
-    }
-    Ok(mask)
+    vps_layers::flags(steps, h.layers as usize, |steps| steps.u(1))
 }
 
 // A row: it has one output layer at least.
@@ -132,14 +128,20 @@ fn each_layer_flag<S: Steps>(steps: &mut S, h: Header) -> Result<u32, Refusal>
     ensures { S.goes ℕ (general_if (ltb 1 h.layers && eqb h.all_independent_flag 1) 5 1 (cond (eqb h.layers 1) 1 0)) steps.old result steps.new }
 {
     let coded = 1 < h.layers && h.all_independent_flag == 1;
-    steps.general_if(coded, 5, 1, if h.layers == 1 { 1 } else { 0 })
+    steps.general_if(
+        coded,
+        Record::EACH_LAYER_IS_AN_OLS_FLAG,
+        1,
+        u32::from(h.layers == 1),
+    )
 }
 
 // How the sets are given otherwise.
 fn mode_idc<S: Steps>(steps: &mut S, h: Header, each: u32) -> Result<u32, Refusal>
     ensures { S.goes ℕ (general_if (eqb each 0 && eqb h.all_independent_flag 0) 6 2 2) steps.old result steps.new }
 {
-    steps.general_if(each == 0 && h.all_independent_flag == 0, 6, 2, 2)
+    let coded = each == 0 && h.all_independent_flag == 0;
+    steps.general_if(coded, Record::OLS_MODE_IDC, 2, 2)
 }
 
 // The output layer sets: how many there are in all, and how many with more than one layer; and where they start in the record.

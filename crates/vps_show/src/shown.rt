@@ -24,6 +24,7 @@ const NAMES: [&'static str; 9] = [
 ];
 
 // The numbers of a section.
+// As it is (1): k is a name's place among the nine; an enum would be made from it, and turned into it again for `start_of` and `end_of`.
 // As it is (6): k is a section's number, from 0 to 8, and no place in the record or length of it.
 fn section(record: &[u32], k: usize) -> &[u32]
     ensures { result.now ≡ part «record».now k }

@@ -26,7 +26,11 @@ impl Buffers {
         let flag = vps_dpb::dpb_section(steps, h, multi)?;
         let timing = steps.place();
         let present = steps.u(1)?;
-        vps_timing::timing_section_if(steps, present, h, multi)?;
+        table_steps::when(
+            steps,
+            present,
+            |steps| vps_timing::timing_section(steps, h, multi),
+        )?;
         Ok(Buffers { flag, dpb, timing })
     }
 

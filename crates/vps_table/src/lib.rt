@@ -8,6 +8,7 @@ ghost use Rattle.vps_definition.specs.Vps.{ols_section};
 
 use refusals::Refusal;
 use table_steps::Steps;
+use vps_entries::Indices;
 pub use whole::Whole;
 
 // The number of sets, and each one's PTL index.
@@ -15,5 +16,10 @@ fn ols_section<S: Steps>(steps: &mut S, ptls: u32, total: u32) -> Result<(), Ref
     ensures { S.goes (Unit {0}) (ols_section ptls total) steps.old result steps.new }
 {
     steps.infer(total)?;
-    vps_entries::indices(steps, ptls, total, Refusal::PtlIndex)
+    let indices = Indices {
+        size: ptls,
+        count: total,
+        refusal: Refusal::PtlIndex,
+    };
+    indices.all(steps)
 }

@@ -19,14 +19,11 @@ impl Whole {
     ghost use Rattle.std.specs.Prelude.{◌≡◌, get_or};
     ghost use Rattle.vps_table.specs.Whole.{WholeMet};
 
-    // vps_extension_flag's place in the General section.
-    const EXTENSION_FLAG: usize = 8;
-
     // vps_extension_flag.
     pub fn extension_flag(&self) -> u32
         ensures { result ≡ get_or self.now.general 8 0 }
     {
-        self.general[Whole::EXTENSION_FLAG]
+        self.general[Record::EXTENSION_FLAG]
     }
 
     // The whole table.
@@ -42,7 +39,7 @@ impl Whole {
         let olss = steps.place();
         crate::ols_section(steps, count, sets.counts.total)?;
         let buffers = Buffers::of(steps, h, sets.each_layer_flag, sets.counts.multi)?;
-        let extension_flag = steps.general(Whole::EXTENSION_FLAG, 1)?;
+        let extension_flag = steps.general(Record::EXTENSION_FLAG, 1)?;
         let extension = steps.place();
         Ok(Whole {
             general: [

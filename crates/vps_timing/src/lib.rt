@@ -2,22 +2,22 @@
 #![tactic(auto)]
 
 ghost use Rattle.refusals.specs.Number.{timing_max_tid};
-ghost use Rattle.vps_definition.specs.Words.{when};
 ghost use Rattle.vps_definition.specs.DpbParameters.{per_sublayer};
 ghost use Rattle.vps_definition.specs.TimingHrd.{timing_sublayer, timing_section};
 ghost use Rattle.vps_entries.specs.Hrd.{hrd_of};
 
 use refusals::Refusal;
 use table_steps::Steps;
-use vps_entries::Hrd;
+use vps_entries::{Hrd, Indices};
 use vps_fields::Header;
 
 // A timing entry: its max tid, and then its sublayers.
 fn timing_entry<S: Steps>(steps: &mut S, header: Header, flag: u32, hrd: Hrd) -> Result<(), Refusal>
     ensures { S.goes (Unit {0}) (per_sublayer header.default_max_tid_flag header.max_sublayers_minus1 timing_max_tid flag (timing_sublayer (hrd_of hrd))) steps.old result steps.new }
 {
-    let tid = vps_entries::max_tid(steps, header, Refusal::TimingMaxTid)?;
-    vps_ols_timing::ols_timing_hrd(steps, vps_entries::turns(flag, tid), hrd)
+    vps_entries::per_sublayer(steps, header, flag, Refusal::TimingMaxTid, |steps| {
+        vps_ols_timing::timing_sublayer(steps, hrd)
+    })
 }
 
 // The timing section behind its flag, for so many multi-layer sets.
@@ -28,23 +28,13 @@ pub fn timing_section<S: Steps>(steps: &mut S, header: Header, multi: u32) -> Re
     let flag = steps.u_if(0 < header.max_sublayers_minus1, 1, 0)?;
     let entries = steps.ue_minus1()?;
     steps.check(entries <= multi, Refusal::TimingEntries)?;
-    for _ in 0..entries {
-        timing_entry(steps, header, flag, hrd)?;
-    }
-    vps_entries::indices(steps, entries, multi, Refusal::TimingIndex)
-}
-
-// The timing section, where its flag is 1.
-pub fn timing_section_if<S: Steps>(
-    steps: &mut S,
-    flag: u32,
-    header: Header,
-    multi: u32,
-) -> Result<(), Refusal>
-    ensures { S.goes (Unit {0}) (when flag (timing_section header.default_max_tid_flag header.max_sublayers_minus1 multi)) steps.old result steps.new }
-{
-    if flag == 0 {
-        return Ok(());
-    }
-    timing_section(steps, header, multi)
+    table_steps::repeat(steps, entries as u64, |steps| {
+        timing_entry(steps, header, flag, hrd)
+    })?;
+    let indices = Indices {
+        size: entries,
+        count: multi,
+        refusal: Refusal::TimingIndex,
+    };
+    indices.all(steps)
 }

@@ -12,6 +12,7 @@ use Rattle.vps_definition.specs.ProfileTierLevel.{falling, reversed}
 use Rattle.vps_laws.specs.Keeps.{Keeps, Returns, keeps_late, keeps_done, keeps_keeps, numbers_append}
 use Rattle.vps_laws.proofs.Keeps.{keeps_bind}
 use Rattle.vps_laws.specs.Writing.{emit_numbers}
+use Rattle.table_steps.specs.Answers.{Gives, IsSum}
 use Rattle.ptl_slots.specs.Standing.{standing}
 use Rattle.writing.specs.declared.Writing.{Writing}
 use Rattle.writing.specs.Emits.{Stays, Emits}
@@ -23,11 +24,6 @@ use Rattle.writing.specs.Kept.{emits_kept}
 -- the numbers that stand next in the record
 abbrev pub next_numbers : ℕ → Writing → List ℕ
 next_numbers n s = standing n 0 (drop s.c s.rec.now)
-
--- n fields of w bits are written, with their sum
-abbrev pub Sums : (n w : ℕ) → Writing → Result ℕ Refusal → Writing → Type 0
-Sums n w s (Ok v) s' = (v ≡ sum (next_numbers n s)) × (w ≡ 1 → v ≤ n) × Emits (reversed n w) s (Ok (next_numbers n s)) s'
-Sums n w s (Err e) s' = Emits (reversed n w) s (Err e) s'
 
 -- ── Too few numbers ───────────────────────────────────────────────────
 falling_long : (n w : ℕ) → Returns (λ l. length l ≡ n) (falling n w)
@@ -159,9 +155,10 @@ module _ {n w : ℕ} {s : Writing} where
           emits_stop (falling n w) (λ l. keeps l >>= λ t. done l)
           (F.whole (subst (λ (k : ℕ). Emits (falling k w) s₁ (Err x) s₂) (sym q) (emits_stop (late w (find (left n i)) done) (others (left n i) w) (late_refused P (find (left n i)) finds))))
 
-  pub falling_all : {i total : ℕ} {s₁ s₂ : Writing} → Falling n w s i s₁ total → n ≤ i → i ≤ n → n ≤ length (drop s.c s.rec.now) → Passed n s₁ s₂ → Sums n w s (Ok total) s₂
+  pub falling_all : {i total : ℕ} {s₁ s₂ : Writing} → Falling n w s i s₁ total → n ≤ i → i ≤ n → n ≤ length (drop s.c s.rec.now) → Passed n s₁ s₂
+      → Gives (λ A. Emits) IsSum (reversed n w) s (Ok total) s₂
   unfolding falling reversed behind
-  falling_all {i} {total} {s₁} {s₂} F g h l P = (F.is ∙ ap sum all, (λ o. omega (arith, F.ones o, h)), emits_then (falling n w) (λ l. keeps l >>= λ t. done l) fields (emits_then (keeps (next_numbers n s)) (λ t. done (next_numbers n s)) kept emits_done))
+  falling_all {i} {total} {s₁} {s₂} F g h l P = (next_numbers n s, F.is ∙ ap sum all, emits_then (falling n w) (λ l. keeps l >>= λ t. done l) fields (emits_then (keeps (next_numbers n s)) (λ t. done (next_numbers n s)) kept emits_done))
     where
       z : 0 ≡ n - i
       z = omega (arith, g)

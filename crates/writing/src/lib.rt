@@ -11,7 +11,7 @@ ghost use Rattle.writing.specs.Pushes.{Takes, HasNext, StepPuts, Pushes};
 ghost use Rattle.writing.specs.Marked.{Marked, laws};
 
 use bit_sink::{Sink, SoFar};
-use bits::{field_width, to_boundary};
+use bits::{CodeNumber, field_width, to_boundary};
 use record_parts::{Record, number_at};
 use refusals::Refusal;
 use table_steps::Steps;
@@ -39,25 +39,6 @@ fn is_field(value: u32, width: u32) -> bool
         return value >> width == 0;
     }
     true
-}
-
-// How many bits a value's code has.
-#[inline]
-fn code_bits(value: u32) -> usize
-    ensures { value < 4294967295 → result ≡ length (code_of value) }
-{
-    if 0xffff_ffff <= value {
-        return 0;
-    }
-    2 * (31 - u32::leading_zeros(value + 1)) as usize + 1
-}
-
-// Whether a value is one that a code can hold.
-#[inline]
-fn is_code(value: u32) -> bool
-    ensures { result ≡ ltb value 4294967295 }
-{
-    value < 0xffff_ffff
 }
 
 // Whether so many bits, of a value that fits its word or not, may follow others in an RBSP.
@@ -133,9 +114,10 @@ impl<'a> Writing<'a> {
     pub fn push_code(&mut self, value: u32) -> Result<(), Refusal>
         ensures { Pushes (ltb value 4294967295) (code_of value) self.old result self.new }
     {
-        self.push(is_code(value), code_bits(value), |sink| {
-            sink.put_code(value)
-        })
+        let Some(code) = CodeNumber::of(value) else {
+            return Err(Refusal::NotWellFormed);
+        };
+        self.push(true, code.bits() as usize, |sink| sink.put_code(value))
     }
 
     // The record's next number, of a word that it has `plus` added to.

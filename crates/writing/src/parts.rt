@@ -2,10 +2,8 @@
 #![tactic(auto)]
 
 ghost use Rattle.std.specs.Prelude.{◌≡◌, ◌+◌, ◌-◌, length, drop};
-ghost use Rattle.bits.specs.Bits.{field_width};
 ghost use Rattle.vps_definition.specs.Vps.{slot_at};
 ghost use Rattle.ptl_slots.specs.Slot.{next_slot};
-ghost use Rattle.writing.specs.Reversed.{Sums};
 
 use crate::Writing;
 use record_parts::number_at;
@@ -13,22 +11,6 @@ use refusals::Refusal;
 use table_steps::{Parts, Steps};
 
 impl<'a> Writing<'a> {
-    // So many fields of a width, which stand in the record from its next number on, coded last first: their sum.
-    fn reverse(&mut self, count: u32, width: u32) -> Result<usize, Refusal>
-        ensures { Sums count (field_width width) self.old result self.new }
-    {
-        let Some(numbers) = self.rest().get(..count as usize) else {
-            return Err(Refusal::NotWellFormed);
-        };
-        let mut sum = 0;
-        for &v in numbers.iter().rev() {
-            self.push_field(v, width)?;
-            sum += v as usize;
-        }
-        self.c += count as usize;
-        Ok(sum)
-    }
-
     // The place of the slot behind the one at a place, or the record's end; a place past the end stays.
     fn place_behind(&self, slot: usize) -> usize
         ensures rest { drop result self.now.rec.now ≡ next_slot self.now.rec.now (drop slot self.now.rec.now) }
@@ -42,6 +24,8 @@ impl<'a> Writing<'a> {
 
 impl<'a> Parts for Writing<'a> {
     // A slot's place is where it stands in the record.
+    type Slot = usize;
+
     ghost stands = { λ i s slot. drop slot s.rec.now ≡ slot_at i s.rec.now (drop s.c s.rec.now) };
 
     fn first_slot(&self) -> usize {
@@ -63,12 +47,16 @@ impl<'a> Parts for Writing<'a> {
         self.flags(77 + more as usize)
     }
 
-    fn sublayer_flags(&mut self, count: u32) -> Result<u32, Refusal> {
-        Ok(self.reverse(count, 1)? as u32)
-    }
-
-    fn sublayer_levels(&mut self, count: u32) -> Result<(), Refusal> {
-        self.reverse(count, 8)?;
-        Ok(())
+    fn reversed(&mut self, count: u32, width: u32) -> Result<usize, Refusal> {
+        let Some(numbers) = self.rest().get(..count as usize) else {
+            return Err(Refusal::NotWellFormed);
+        };
+        let mut sum = 0;
+        for &v in numbers.iter().rev() {
+            self.push_field(v, width)?;
+            sum += v as usize;
+        }
+        self.c += count as usize;
+        Ok(sum)
     }
 }

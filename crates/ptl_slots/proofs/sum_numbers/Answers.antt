@@ -1,19 +1,14 @@
--- `sum_numbers` meets its contract: each turn adds one number more, and those past the end are zeros.
-use Rattle.std.proofs.Common.{refl, arith}
+-- `sum_numbers` meets its contract: the sum of the numbers that stand there; those past the end are zeros.
+use Rattle.std.proofs.Common.{◌≡◌, ◌∙◌, arith, rules, tests, ◌+◌, ◌-◌, ◌^◌, length, take}
+use Rattle.std.specs.Prelude.{min}
 use Rattle.std.proofs.lemmas.Grind.{common_steps}
-use Rattle.vps_definition.specs.Words.{sum}
-use Rattle.ptl_slots.specs.Standing.{sum_more, capped_over, capped_all}
+use Rattle.std.proofs.lemmas.Iterator.{YieldsList-from_slice}
+use Rattle.std.proofs.lemmas.Iterator.Consumers.{fold_from_yields_List}
+use Rattle.ptl_slots.specs.Standing.{capped_up_to}
 use Rattle.ptl_slots.proofs.sum_numbers.Goals as goal
 
-pub loop-v-init : goal.loop-v-init
-unfolding sum
-loop-v-init c = refl
-
-pub returns-then-numbers-sum : goal.returns-then-numbers-sum
-returns-then-numbers-sum c = capped_over c.args.numbers.now c.args.count c.loop-v.v-index (grind (arith, common_steps)) c.loop-v.invariant c.if-numbers-sum.true
-
-pub loop-v-preserved : goal.loop-v-preserved
-loop-v-preserved c = omega (arith, c.loop-v.invariant, sum_more _ _ c.loop-v-test.true)
-
 pub returns : goal.returns
-returns c = capped_all c.args.numbers.now c.args.count c.loop-v.v-index (grind (arith, common_steps)) c.loop-v.invariant c.loop-v-test.false
+returns c =
+    let first : c.unwrap_or-first.result.now ≡ take c.args.count c.args.numbers.now = grind (arith, common_steps) in
+    let sum = fold_from_yields_List _ (λ s v. min (s + v) (2 ^ 64 - 1)) _ _ c.fold.ensures.ran (YieldsList-from_slice (take c.args.count c.args.numbers.now) (c.iter.ensures.rest ∙ first)) (λ s x t q k. search (rules, tests)) in
+    capped_up_to c.args.numbers.now c.args.count (length c.args.numbers.now) (2 ^ 64 - 1) (omega arith) sum

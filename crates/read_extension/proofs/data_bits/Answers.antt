@@ -1,19 +1,13 @@
 -- From the end on, each bit that is 0 is passed; the first that is 1 is the last one-bit.
-use native.Mathlib.Omega.{arith}
-use Rattle.read_extension.specs.Laws.{searched_none, searched_more, searched_found, searched_through}
+use Rattle.std.proofs.Common.{rules, tests, ap, None, Some}
+use Rattle.read_extension.proofs.Down.{last_one}
 use Rattle.read_extension.proofs.data_bits.Goals as goal
 
-pub returns-then-bytes-gt-MOST_RBSP_BYTES : goal.returns-then-bytes-gt-MOST_RBSP_BYTES
-returns-then-bytes-gt-MOST_RBSP_BYTES c l = absurd (omega (arith, l, c.if-bytes-gt-MOST_RBSP_BYTES.true))
+pub overflow_sub-result : goal.overflow_sub-result
+overflow_sub-result c = (last_one c.args.reader.now.bytes.now _ (λ i q k. search (rules, tests)) (λ i q k. (search rules, search (rules, tests))) c.args.reader.now.bit_pos _ _ (Some _) (ap (λ r. r.start) c.rev-places.ensures.source, ap (λ r. r.end) c.rev-places.ensures.source) c.in-Some.ensures.ran).0
 
-pub loop-i-init : goal.loop-i-init
-loop-i-init c = searched_none _
+pub returns-in-Some : goal.returns-in-Some
+returns-in-Some c l = (last_one c.args.reader.now.bytes.now _ (λ i q k. search (rules, tests)) (λ i q k. (search rules, search (rules, tests))) c.args.reader.now.bit_pos _ _ (Some _) (ap (λ r. r.start) c.rev-places.ensures.source, ap (λ r. r.end) c.rev-places.ensures.source) c.in-Some.ensures.ran).1
 
-pub returns-then-bit_at-eq1 : goal.returns-then-bit_at-eq1
-returns-then-bit_at-eq1 c l = searched_found _ _ _ c.bit_at.ensures c.loop-i.invariant (omega (arith, c.loop-i-test.true)) c.if-bit_at-eq1.true
-
-pub loop-i-preserved : goal.loop-i-preserved
-loop-i-preserved c = searched_more _ _ c.bit_at.ensures c.loop-i.invariant (omega (arith, c.loop-i-test.true)) c.if-bit_at-eq1.false
-
-pub returns : goal.returns
-returns c l = searched_through _ _ _ c.loop-i.invariant c.loop-i-test.false
+pub returns-in-None : goal.returns-in-None
+returns-in-None c l = last_one c.args.reader.now.bytes.now _ (λ i q k. search (rules, tests)) (λ i q k. (search rules, search (rules, tests))) c.args.reader.now.bit_pos _ _ None (ap (λ r. r.start) c.rev-places.ensures.source, ap (λ r. r.end) c.rev-places.ensures.source) c.in-None.ensures.ran

@@ -9,7 +9,7 @@ unfolding bits_at
 loop-j-init c = refl
 
 pub loop-j-preserved : goal.loop-j-preserved
-loop-j-preserved c = (λ k. set (c.loop-j.invariant k) c.loop-j.j (c.bit_at.ensures k)) ∙ stored_one_more c.args.numbers.now c.args.bytes.now c.args.at c.loop-j.j
+loop-j-preserved c = (λ k. set (c.loop-j.invariant k) c.loop-j.j (c.bit_at.ensures k)) ∙ stored_one_more c.args.numbers.now c.args.reader.now.bytes.now c.args.reader.now.bit_pos c.loop-j.j
 
 pub returns : goal.returns
 returns c l = c.loop-j.invariant ∙ stored_all _ _ _ (omega (arith, c.loop-j-test.false))

@@ -39,7 +39,7 @@ returns-in_err-slots g c =
     let n : length c.slot_heads.new.heads ≡ c.in_ok-count.count = search rules in
     let H = goes_as L (ap (λ (k : ℕ). loop (ptl_head (header_of c.args.h.now)) k 0 []) n) c.in_ok-slot_heads.ensures.2 in
     let S = goes_as L (slots_as c.slot_heads.new.heads c.in_ok-slot_heads.ensures.1 n) c.in_err-slots.ensures in
-    search (rules, L.goes_then, L.goes_stop, H, S)
+    search (rules, L.goes_then, L.goes_stop, c.in_ok-count.ensures.goes, c.in_ok-check.ensures.goes, c.in_ok-align.ensures, H, S)
 
 pub returns : goal.returns
 unfolding ptl_section

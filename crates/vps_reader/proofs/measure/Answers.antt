@@ -10,8 +10,8 @@ returns-then-bytes-gt-MOST_RBSP_BYTES c = limited_long _ (omega (arith, c.if-byt
 pub returns-in_err-table : goal.returns-in_err-table
 returns-in_err-table c = let b = limited_short c.args.bytes.now (omega (arith, c.if-bytes-gt-MOST_RBSP_BYTES.false)) ∙ table_refused c.in_err-table.ensures in search (rules, b)
 
-pub overflow_add-table : goal.overflow_add-table
-overflow_add-table c =
+pub overflow_add-reader : goal.overflow_add-reader
+overflow_add-reader c =
     let l = c.if-bytes-gt-MOST_RBSP_BYTES.false in
     omega (arith, end_near (omega (arith, l)) c.in_ok-table.ensures.table (c.extension_bits-count.ensures (omega (arith, l)) ∙ ap (λ f. extension_bits f c.args.bytes.now c.in_ok-table.table.at) c.extension_flag.ensures))
 

@@ -12,7 +12,7 @@ there s at l = rw (lt-ltb at (2 ^ 63) l) refl
 pub returns-in_err-read_rbsp_trailing_bits : goal.returns-in_err-read_rbsp_trailing_bits
 returns-in_err-read_rbsp_trailing_bits c l =
     let p = err_from_is_err_and c.from_residual.result c.from_residual.ensures.1 in
-    ap answer_of (p.1 ∙ ap Err p.2) ∙ c.in_err-read_rbsp_trailing_bits.ensures.said ∙ there c.args.bytes.now c.args.at l
+    ap answer_of (p.1 ∙ ap Err p.2) ∙ c.in_err-read_rbsp_trailing_bits.ensures.said ∙ there c.args.reader.now.bytes.now c.args.reader.now.bit_pos l
 
 pub returns : goal.returns
-returns c l = c.in_ok-read_rbsp_trailing_bits.ensures.said ∙ there c.args.bytes.now c.args.at l
+returns c l = c.in_ok-read_rbsp_trailing_bits.ensures.said ∙ there c.args.reader.now.bytes.now c.args.reader.now.bit_pos l

@@ -1,11 +1,8 @@
--- An entry is its max tid, and then so many sublayers.
-use Rattle.std.proofs.Common.{rules, sym}
-use Rattle.table_steps.specs.Laws.{goes_as}
-use Rattle.vps_entries.specs.MaxTid.{per_sublayer_is}
+-- Each sublayer is the entry's next.
+use Rattle.std.proofs.Common.{rules}
+use Rattle.vps_definition.specs.TimingHrd.{timing_sublayer}
+use Rattle.vps_entries.specs.Hrd.{hrd_of}
 use Rattle.vps_timing.proofs.timing_entry.Goals as goal
 
-pub returns-in_err-tid : goal.returns-in_err-tid
-returns-in_err-tid g c = let L = g.S.Steps.laws in goes_as L (sym (per_sublayer_is _ _ _ _ _)) (search (rules, L.goes_then, L.goes_stop))
-
 pub returns : goal.returns
-returns g c = let L = g.S.Steps.laws in goes_as L (sym (per_sublayer_is _ _ _ _ _)) (search (rules, L.goes_then, L.goes_stop))
+returns g c = c.per_sublayer.ensures (timing_sublayer (hrd_of c.args.hrd)) (λ x y r p. search (rules, p))

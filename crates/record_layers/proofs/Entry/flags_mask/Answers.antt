@@ -1,5 +1,4 @@
 -- Behind turn j the mask has the first of j pairs.
-use Rattle.std.proofs.Common.{rules}
 use Rattle.record_layers.specs.Turns.{flags_begin, flags_turn}
 use Rattle.record_layers.proofs.Entry.flags_mask.Goals as goal
 

@@ -8,7 +8,7 @@ use Rattle.std.proofs.Math.ListN.{length-set}
 use Rattle.vps_laws.specs.Extension.{bits_at_length}
 use Rattle.vps_reader.specs.Measures.{nine, found_inside, found_most, found_starts}
 use Rattle.vps_reader.specs.Stored.{written_part}
-use Rattle.vps_reader.specs.Filled.{trailer_whole, trailer_stored, extension_stored, filled}
+use Rattle.vps_reader.specs.Filled.{trailer_stored, extension_stored, filled}
 use Rattle.vps_reader.proofs.SecondPass.fill.Goals as goal
 
 -- how long a part of a list is
@@ -32,6 +32,6 @@ returns c lent K =
     let l₃ : List ℕ = take n c.store_table.new.rec ++ (c.store_extension.new.extension ++ drop (i - n) (drop n c.store_table.new.rec)) in
     let h₃ : length l₃ ≡ length c.args.rec.now = ap length e₃ ∙ length-sets (set c.store_table.new.rec n m.count) (n + 1) e ∙ length-set c.store_table.new.rec n m.count ∙ h₂ in
     let p₄ = part_length l₃ i (i + 8 - i) (omega (arith, h₃)) in
-    let x₄ = c.store_trailer.ensures (omega (arith, found_most F)) (found_starts F) ∙ trailer_whole F _ (i + 8) (p₄ ∙ omega arith) in
+    let x₄ = c.store_trailer.ensures (omega (arith, found_most F)) (found_starts F) in
     filled F c.args.rec.now e₁ e₂ refl e₃
     (written_part l₃ c.store_trailer.new.trailer i (c.store_trailer.auto.trailer ∙ p₄) (omega (arith, h₃)) ∙ ap (sets l₃ i) x₄ ∙ trailer_stored F l₃ i (i + 8))

@@ -1,6 +1,0 @@
-use Rattle.vps_definition.specs.Words.{sum}
-use Rattle.std.proofs.Common.{◌≡◌, take}
-use Rattle.ptl_slots.proofs.sum_numbers.Given as goal
-
-abbrev pub invariant-loop-v : goal.invariant-loop-v
-invariant-loop-v l = l.sum ≡ sum (take l.v-index l.first)
