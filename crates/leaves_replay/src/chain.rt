@@ -4,6 +4,7 @@
 use crate::content::is_buffer_same;
 use crate::expected::{Expected, Front, Step, outcome};
 use crate::{reading, writing};
+use replay_list::UnknownTag;
 use replay_numbers::Content;
 
 // The bytes of a step.
@@ -18,20 +19,20 @@ struct Link {
 
 impl Link {
     // The next of the steps, at a place.
-    fn next(steps: &mut Content, at: usize) -> Link {
-        let step = Step::from(steps.byte());
+    fn next(steps: &mut Content, at: usize) -> Result<Link, UnknownTag> {
+        let step = Step::try_from(steps.byte())?;
         let width = u32::from(steps.byte());
         let value = steps.four_bytes();
         let number = u32::from(steps.byte());
         let next = outcome(number, steps.two_bytes() as usize);
-        Link {
+        Ok(Link {
             step,
             front: Front {
                 at,
                 width,
                 expected: Expected { next, value },
             },
-        }
+        })
     }
 }
 
@@ -46,7 +47,9 @@ fn are_steps<F: Fn(Step, &mut [u8], Front) -> bool>(
 {
     let mut at = 0;
     for _ in 0..count {
-        let Link { step, front } = Link::next(&mut steps, at);
+        let Ok(Link { step, front }) = Link::next(&mut steps, at) else {
+            return false;
+        };
         if !is_step(step, out, front) {
             return false;
         }

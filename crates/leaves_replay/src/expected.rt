@@ -1,5 +1,6 @@
 // What a case of a step is asked with and expects, and the steps by their numbers.
 use refusals::Refusal;
+use replay_list::UnknownTag;
 use replay_numbers::Content;
 
 // A step of the bit reader or of the bit writer.
@@ -12,15 +13,18 @@ pub enum Step {
     Trailing,
 }
 
-// By its number in a case: the trailing bits are the fifth.
-impl From<u8> for Step {
-    fn from(number: u8) -> Step {
-        match number {
-            1 => Step::Bit,
-            2 => Step::Field,
-            4 => Step::Alignment,
-            5..=255 => Step::Trailing,
-            _ => Step::Code,
+// By its tag in a chain.
+impl TryFrom<u8> for Step {
+    type Error = UnknownTag;
+
+    fn try_from(tag: u8) -> Result<Step, UnknownTag> {
+        match tag {
+            1 => Ok(Step::Bit),
+            2 => Ok(Step::Field),
+            3 => Ok(Step::Code),
+            4 => Ok(Step::Alignment),
+            5 => Ok(Step::Trailing),
+            _ => Err(UnknownTag),
         }
     }
 }

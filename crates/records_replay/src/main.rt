@@ -5,7 +5,7 @@ ghost use Rattle.std.specs.Prelude.{◌<◌, ◌^◌};
 
 mod written;
 
-use replay_list::Replayer;
+use replay_list::UnknownTag;
 
 // How long the buffers of a case may be.
 #[derive(Clone, Copy, PartialEq, Eq)]
@@ -13,10 +13,6 @@ enum Size {
     Small = 1,
     Large = 2,
 }
-
-// A tag that no case has.
-#[derive(Clone, Copy, Debug)]
-struct UnknownTag;
 
 impl TryFrom<u8> for Size {
     type Error = UnknownTag;
@@ -38,20 +34,16 @@ fn is_same_within<const NUMBERS: usize, const BYTES: usize>(content: &[u8]) -> b
     written::is_same(content, &mut [0; NUMBERS], &mut [0; BYTES])
 }
 
-// The writer of whole records.
-struct Records;
-
-impl Replayer for Records {
-    fn is_same(&self, tag: u8, content: &[u8]) -> bool {
-        match Size::try_from(tag) {
-            Ok(Size::Small) => is_same_within::<8192, 4096>(content),
-            Ok(Size::Large) => is_same_within::<524800, 66048>(content),
-            Err(UnknownTag) => false,
-        }
+// Whether a case is as recorded, on buffers of the size that its tag says.
+fn is_same(tag: u8, content: &[u8]) -> bool {
+    match Size::try_from(tag) {
+        Ok(Size::Small) => is_same_within::<8192, 4096>(content),
+        Ok(Size::Large) => is_same_within::<524800, 66048>(content),
+        Err(UnknownTag) => false,
     }
 }
 
 fn main() {
     let mut content = [0u8; 16384];
-    replay_list::replay(&Records, &mut content);
+    replay_list::replay(&mut content, is_same);
 }

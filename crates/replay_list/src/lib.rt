@@ -3,27 +3,17 @@
 
 ghost use Rattle.std.specs.Prelude.{◌≡◌, ◌+◌, ◌<◌, ◌^◌, cond};
 
-// Standard input and output.
-const STDIN_FILENO: i32 = 0;
+use printing::print_count;
 
-const STDOUT_FILENO: i32 = 1;
+// Standard input.
+const STDIN_FILENO: i32 = 0;
 
 // More records than any list has.
 const MOST_RECORDS: u64 = 1_000_000;
 
-// Prints a word and a count.
-pub fn print_count(word: &[u8], count: u64) {
-    io::write_all(STDOUT_FILENO, word);
-    io::write_all(STDOUT_FILENO, b" ");
-    io::print_decimal(STDOUT_FILENO, count);
-    io::write_all(STDOUT_FILENO, b"\n");
-}
-
-// How a program replays the cases of its list.
-pub trait Replayer {
-    // Whether the answers to a case are those recorded; the tag says what is asked.
-    fn is_same(&self, tag: u8, content: &[u8]) -> bool;
-}
+// A tag that no case of a list has.
+#[derive(Clone, Copy, Debug)]
+pub struct UnknownTag;
 
 // A record of the list.
 #[derive(Clone, Copy)]
@@ -80,8 +70,11 @@ impl Counts {
 }
 
 // Replays the list on standard input, each record by way of a lent slice; prints how many cases each kind has, and how many
-// differ. A record that is cut off or too long counts as a case that differs.
-pub fn replay<R: Replayer>(replayer: &R, content: &mut [u8]) {
+// differ. Whether the answers to a case are those recorded is asked with its tag and its content. A record that is cut off or
+// too long counts as a case that differs.
+pub fn replay<F: Fn(u8, &[u8]) -> bool>(content: &mut [u8], is_same: F)
+    requires { F.IsAlwaysCallable is_same }
+{
     let mut counts = Counts::default();
     for _ in 0..MOST_RECORDS {
         match read_record(content) {
@@ -93,7 +86,7 @@ pub fn replay<R: Replayer>(replayer: &R, content: &mut [u8]) {
                 print_count(name, counts.cases);
                 counts.cases = 0;
             }
-            Ok(Some(Record::Case(tag, content))) => counts.add(replayer.is_same(tag, content)),
+            Ok(Some(Record::Case(tag, content))) => counts.add(is_same(tag, content)),
             Err(Broken) => counts.add(false),
         }
     }

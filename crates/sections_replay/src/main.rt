@@ -3,18 +3,12 @@
 
 mod sections;
 
-use replay_list::Replayer;
-
-// Section lookup, asked for all sections of a record under tag 1.
-struct Lookup;
-
-impl Replayer for Lookup {
-    fn is_same(&self, tag: u8, content: &[u8]) -> bool {
-        tag == 1 && sections::is_same(content)
-    }
+// Whether a case is as recorded: all sections of a record are asked under tag 1.
+fn is_same(tag: u8, content: &[u8]) -> bool {
+    tag == 1 && sections::is_same(content)
 }
 
 fn main() {
     let mut content = [0u8; 4096];
-    replay_list::replay(&Lookup, &mut content);
+    replay_list::replay(&mut content, is_same);
 }

@@ -5,7 +5,7 @@
 mod page;
 mod row;
 
-use replay_list::print_count;
+use printing::print_count;
 
 // Standard input.
 const STDIN_FILENO: i32 = 0;

@@ -1,5 +1,5 @@
 -- The way back: a unit is read, its record written, and the bytes compared with the unit's.
-use Prim.Native.Nat.{ℕ, ◌-◌, ◌≤◌}
+use Prim.Native.Nat.{ℕ, ◌≤◌}
 use Rattle.std.specs.Prelude.{◌≡◌, Bool, replicate, Result, Ok, Err}
 use Rattle.std.proofs.Math.Path.{refl, sym, ap}
 use Rattle.std.proofs.Common.{◌∙◌, arith}
@@ -39,7 +39,7 @@ pub data Back : Type 0 where
 
 abbrev pub said : Result Code.Back NotBack → Back
 said (Ok b) = returned b.count b.same
-said (Err (NotRead e)) = not_read (number_of e)
+said (Err (NotRead e)) = not_read (number_of (refusal_of e))
 said (Err (NotWritten e)) = not_written (number_of e)
 
 -- of a record's bytes, with an output of 6,146 bytes
@@ -85,13 +85,12 @@ module _ (u r out : List ℕ) (room : length out ≡ 6146) {x : Result ℕ Refus
   pub back_inside : {n : ℕ} → x ≡ Ok n → n ≤ 6146
   back_inside e = let B = bytes_of e in omega (arith, B.count, B.fits)
 
-  pub back_done : {n : ℕ} {b : Bool} → x ≡ Ok n → b ≡ same (take (n - 0) (drop 0 out')) u → returned n b ≡ written_back u (write_record r)
+  pub back_done : {n : ℕ} {b : Bool} → x ≡ Ok n → b ≡ same (take n out') u → returned n b ≡ written_back u (write_record r)
   unfolding written_back
   back_done {n} {b} e s =
       let B = bytes_of e in
       let v : List ℕ = B.bytes in
-      let k : n - 0 ≡ length v = omega (arith, B.count) in
-      let t : take (n - 0) out' ≡ v = (λ i. take (k i) (B.stands i)) ∙ take-append_seam v (drop (length v) out) in
+      let t : take n out' ≡ v = (λ i. take (B.count i) (B.stands i)) ∙ take-append_seam v (drop (length v) out) in
       let q : returned n b ≡ returned (length v) (same v u) = λ i. returned (B.count i) ((s ∙ ap (λ (l : List ℕ). same l u) t) i) in
       rw (B.is, le-leb (length v) 6146 B.fits) q
 
@@ -123,7 +122,7 @@ module _ (u : List ℕ) {x : Result Parsed NotParsed} {work lent' : List ℕ} (G
   unfolding read_back
   back_accepted e f w = w ∙ ap (λ (l : List ℕ). written_back u (write_record l)) f ∙ read_as e
 
-  pub back_not_read : (n : NotParsed) {e : Refusal} → x ≡ Err n → e ≡ refusal_of n → not_read (number_of e) ≡ back u
+  pub back_not_read : (n : NotParsed) → x ≡ Err n → not_read (number_of (refusal_of n)) ≡ back u
   unfolding read_back
-  back_not_read (Not.RecordTooShort needed) e f = ap (λ k. not_read (number_of k)) f ∙ read_as e
-  back_not_read (Not.Refused k) e f = ap (λ k. not_read (number_of k)) f ∙ read_as e
+  back_not_read (Not.RecordTooShort needed) e = read_as e
+  back_not_read (Not.Refused k) e = read_as e

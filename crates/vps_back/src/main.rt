@@ -2,12 +2,12 @@
 #![tactic(auto)]
 
 ghost use Rattle.std.specs.Prelude.{◌≡◌};
-ghost use Rattle.lists.specs.Same.{same};
 ghost use Rattle.vps_definition.specs.Writing.{write_record};
 ghost use Rattle.vps_back.specs.Back.{said, written_back, back};
 
+use printing::print_count;
 use refusals::Refusal;
-use vps_reader::parse_vps;
+use vps_reader::{NotParsed, parse_vps};
 use vps_writer::write_vps_nal;
 
 // Standard input and output.
@@ -34,17 +34,32 @@ struct Back {
 // Why a unit doesn't come back.
 #[derive(Clone, Copy)]
 enum NotBack {
-    // the reader's refusal
-    NotRead(Refusal),
+    // the reader's answer
+    NotRead(NotParsed),
     // the writer's refusal
     NotWritten(Refusal),
 }
 
-// Whether two byte strings are the same, byte by byte.
-fn is_same(a: &[u8], b: &[u8]) -> bool
-    ensures { result ≡ same a.now b.now }
-{
-    a == b
+impl From<NotParsed> for NotBack {
+    ghost use Rattle.std.specs.Prelude.{◌≡◌};
+    ghost use Rattle.vps_back.specs.declared.NotBack.TheVariants as NotBackIs;
+
+    ghost from_gives = { λ not_parsed not. not ≡ NotBackIs.NotRead not_parsed };
+
+    fn from(not_parsed: NotParsed) -> NotBack {
+        NotBack::NotRead(not_parsed)
+    }
+}
+
+impl From<Refusal> for NotBack {
+    ghost use Rattle.std.specs.Prelude.{◌≡◌};
+    ghost use Rattle.vps_back.specs.declared.NotBack.TheVariants as NotBackIs;
+
+    ghost from_gives = { λ refusal not. not ≡ NotBackIs.NotWritten refusal };
+
+    fn from(refusal: Refusal) -> NotBack {
+        NotBack::NotWritten(refusal)
+    }
 }
 
 // A record, written and compared with the unit.
@@ -52,13 +67,12 @@ fn written_back(unit: &[u8], record: &[u32]) -> Result<Back, NotBack>
     ensures { said result ≡ written_back unit.now (write_record «record».now) }
 {
     let mut output = [0u8; OUTPUT_BYTES];
-    match write_vps_nal(record, &mut output) {
-        Ok(count) => Ok(Back {
-            count,
-            same: is_same(&output[0..count], unit),
-        }),
-        Err(refusal) => Err(NotBack::NotWritten(refusal)),
-    }
+    let count = write_vps_nal(record, &mut output)?;
+    let written = &output[..count];
+    Ok(Back {
+        count,
+        same: written == unit,
+    })
 }
 
 // A unit, read, written and compared.
@@ -67,25 +81,21 @@ fn way_back(unit: &[u8]) -> Result<Back, NotBack>
 {
     let mut work = [0u8; UNIT_BYTES];
     let mut record = [0u32; RECORD_NUMBERS];
-    match parse_vps(unit, &mut work, &mut record) {
-        Ok(parsed) => written_back(unit, &record[..parsed.numbers.min(record.len())]),
-        Err(not_parsed) => Err(NotBack::NotRead(not_parsed.refusal())),
-    }
+    let parsed = parse_vps(unit, &mut work, &mut record)?;
+    written_back(unit, parsed.record_in(&record))
 }
 
-// Prints a word and a number.
-fn print_number(word: &[u8], number: u64) {
-    io::write_all(STDOUT_FILENO, word);
-    io::print_decimal(STDOUT_FILENO, number);
-    io::write_all(STDOUT_FILENO, b"\n");
+// Prints a word, and a refusal's number behind it.
+fn print_refusal(word: &[u8], refusal: Refusal) {
+    print_count(word, u64::from(refusal.number()));
 }
 
 fn print_back(answer: Result<Back, NotBack>) {
     match answer {
-        Err(NotBack::NotRead(refusal)) => print_number(b"refused ", refusal.number() as u64),
-        Err(NotBack::NotWritten(refusal)) => print_number(b"not written ", refusal.number() as u64),
+        Err(NotBack::NotRead(not_parsed)) => print_refusal(b"refused", not_parsed.refusal()),
+        Err(NotBack::NotWritten(refusal)) => print_refusal(b"not written", refusal),
         Ok(back) => {
-            print_number(b"written ", back.count as u64);
+            print_count(b"written", back.count as u64);
             if back.same {
                 io::write_all(STDOUT_FILENO, b"same\n");
             } else {

@@ -1,9 +1,8 @@
 // Reads one unit from standard input and prints its record, a line a section, or its refusal.
 #![tactic(auto)]
 
-ghost use Rattle.std.specs.Prelude.{◌≡◌, length};
+ghost use Rattle.std.specs.Prelude.{◌≡◌, take};
 ghost use Rattle.lists.specs.Stored.{overlaid};
-ghost use Rattle.io.specs.Counts.{IsPrefixLen};
 ghost use Rattle.texts.specs.Adds.{Adds};
 ghost use Rattle.vps_show.specs.Shown.{shown_unit, shown_input};
 
@@ -57,15 +56,14 @@ fn show_input(input: &[u8], text: &mut Text)
     }
 }
 
-// The text for an input, whole; the bytes behind it are unchanged.
-fn show(input: &[u8], room: &mut [u8; TEXT_BYTES]) -> usize
-    ensures value { result ≡ length (shown_input input.now) }
-    ensures text_after { room.new ≡ overlaid (shown_input input.now) room.old }
-    ensures prefix_len { IsPrefixLen result room.new }
+// The text for an input, whole, in a room for every text; the bytes behind it are unchanged.
+fn show<'a>(input: &[u8], room: &'a mut [u8; TEXT_BYTES]) -> Text<'a>
+    ensures value { take result.place result.bytes.now ≡ shown_input input.now }
+    ensures text_after { result.bytes.now ≡ overlaid (shown_input input.now) room.old }
 {
     let mut text = Text::at(room, 0);
     show_input(input, &mut text);
-    text.place
+    text
 }
 
 fn main() {
@@ -73,6 +71,6 @@ fn main() {
     let mut input = [0u8; UNIT_BYTES + 1];
     let got = io::read_full(STDIN_FILENO, &mut input);
     let mut room = [0u8; TEXT_BYTES];
-    let end = show(&input[..got], &mut room);
-    io::write_all(STDOUT_FILENO, &room[..end]);
+    let text = show(&input[..got], &mut room);
+    io::write_all(STDOUT_FILENO, text.so_far());
 }

@@ -66,7 +66,7 @@ pub fn put_answer(text: &mut Text, answer: Result<Parsed, NotParsed>, record: &[
     match answer {
         Ok(parsed) => {
             put_count(text, "ok", parsed.numbers as u64);
-            put_record(text, &record[..parsed.numbers.min(record.len())]);
+            put_record(text, parsed.record_in(record));
         }
         Err(not_parsed) => {
             let number = not_parsed.refusal().number();

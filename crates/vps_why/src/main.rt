@@ -1,8 +1,7 @@
 // Reads one unit from standard input and prints `accepted`, or the number of its refusal and the sentence.
 #![tactic(auto)]
 
-ghost use Rattle.std.specs.Prelude.{◌≡◌, length};
-ghost use Rattle.io.specs.Counts.{IsPrefixLen};
+ghost use Rattle.std.specs.Prelude.{◌≡◌, take};
 ghost use Rattle.refusals.specs.Refusals.{number_of};
 ghost use Rattle.lists.specs.Stored.{overlaid};
 ghost use Rattle.texts.specs.Adds.{Adds};
@@ -50,24 +49,23 @@ fn put_answer(text: &mut Text, answer: Result<Parsed, NotParsed>)
     }
 }
 
-// The line for a unit, whole; the bytes behind it are unchanged.
-fn why_of(unit: &[u8], line: &mut [u8; LINE_BYTES]) -> usize
-    ensures value { result ≡ length (why unit.now) }
-    ensures text_after { line.new ≡ overlaid (why unit.now) line.old }
-    ensures prefix_len { IsPrefixLen result line.new }
+// The line for a unit, whole, in a room for every line; the bytes behind it are unchanged.
+fn why_of<'a>(unit: &[u8], room: &'a mut [u8; LINE_BYTES]) -> Text<'a>
+    ensures value { take result.place result.bytes.now ≡ why unit.now }
+    ensures text_after { result.bytes.now ≡ overlaid (why unit.now) room.old }
 {
     let mut work = [0u8; WORK_BYTES];
     let mut record = [0u32; 1];
     let answer = parse_vps(unit, &mut work, &mut record);
-    let mut text = Text::at(line, 0);
-    put_answer(&mut text, answer);
-    text.place
+    let mut line = Text::at(room, 0);
+    put_answer(&mut line, answer);
+    line
 }
 
 fn main() {
     let mut unit = [0u8; UNIT_BYTES];
     let got = io::read_full(STDIN_FILENO, &mut unit);
-    let mut line = [0u8; LINE_BYTES];
-    let end = why_of(&unit[..got], &mut line);
-    io::write_all(STDOUT_FILENO, &line[..end]);
+    let mut room = [0u8; LINE_BYTES];
+    let line = why_of(&unit[..got], &mut room);
+    io::write_all(STDOUT_FILENO, line.so_far());
 }

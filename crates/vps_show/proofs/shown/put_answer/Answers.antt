@@ -1,7 +1,6 @@
 -- `put_answer` meets its contract, case by case.
 use Rattle.std.specs.Prelude.{Result}
-use Rattle.std.proofs.Common.{ℕ, take, sym, ap, ◌∙◌}
-use Rattle.std.proofs.lemmas.List.{take_min}
+use Rattle.std.proofs.Common.{sym, ap, ◌∙◌}
 use Rattle.refusals.specs.Refusals.{number_of}
 use Rattle.vps_reader.specs.Answers.{parsed_answer}
 use Rattle.vps_reader.specs.declared.parsed.Parsed.{Parsed}
@@ -14,7 +13,7 @@ pub returns-in-Ok : goal.returns-in-Ok
 unfolding shown ok_text
 returns-in-Ok c =
     adds_same (sym (ap (λ (a : Result Parsed NotParsed). shown (parsed_answer a) c.args.«record».now) c.in-Ok.is))
-    (adds_then c.put_count.ensures (adds_same (ap record_text (ap (λ (k : ℕ). take k c.args.«record».now) c.min.ensures ∙ take_min _ c.args.«record».now)) c.put_record.ensures))
+    (adds_then c.put_count.ensures (adds_same (ap record_text c.record_in.ensures) c.put_record.ensures))
 
 pub returns-in-Err : goal.returns-in-Err
 unfolding refused_text
