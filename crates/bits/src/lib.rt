@@ -60,7 +60,7 @@ impl CodeNumber {
         let number = value.checked_add(1)?;
         Some(Self {
             number,
-            zeros: number.ilog2(),
+            zeros: 31 - u32::leading_zeros(number),
         })
     }
 
