@@ -9,15 +9,14 @@ ghost use Rattle.ptl_slots.specs.Standing.{standing, Capped};
 ghost use Rattle.ptl_slots.specs.Skims.{Skims};
 ghost use Rattle.ptl_slots.specs.Slot.{next_slot, more_constraints, front_of};
 
-use lists::behind;
+use lists::{behind, front};
 use record_parts::number_at;
 
 // The sum of so many numbers, or more than there are numbers where that is so.
 pub fn sum_numbers(numbers: &[u32], count: u32) -> usize
     ensures { Capped (length numbers.now) (sum (standing count 0 numbers.now)) result }
 {
-    let first = numbers.get(..count as usize).unwrap_or(numbers);
-    first
+    front(numbers, count as usize)
         .iter()
         .fold(0, |sum: usize, v| sum.saturating_add(*v as usize))
 }

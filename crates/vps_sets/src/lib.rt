@@ -72,8 +72,7 @@ impl Layers<'_> {
     fn masks(&self) -> &[u64]
         ensures { result.now ≡ take self.now.h.layers self.now.closed.now }
     {
-        let n = self.h.layers as usize;
-        self.closed.get(..n).unwrap_or(self.closed)
+        lists::front(self.closed, self.h.layers as usize)
     }
 
     // The rows; each row's output layers, with all that these reach, are one or several layers.
