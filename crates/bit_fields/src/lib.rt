@@ -1,36 +1,43 @@
 // Bits and fields of a byte slice, at any place: total functions, to which bits past the end are 0.
 #![tactic(auto)]
 
-ghost use Rattle.std.specs.Prelude.{ℕ, ◌≡◌, true, ◌+◌, ◌*◌, ◌-◌, ◌/◌, ◌%◌, ◌^◌, ◌<◌, ◌≤◌, length, get_or};
+ghost use Rattle.std.specs.Prelude.{◌≡◌, true, ◌+◌, ◌*◌, ◌-◌, ◌/◌, ◌%◌, ◌^◌, ◌<◌, ◌≤◌, length, get_or};
 ghost use Rattle.bits.specs.Bits.{bit_at, field_at, field_width};
 ghost use Rattle.bit_fields.specs.Window.{window_start};
 
-// The first N bytes, at once where all of them stand inside; past the end each byte is 0.
-fn padded<const N: usize>(bytes: &[u8]) -> [u8; N]
-    ensures { (k : ℕ) → k < N → get_or result k 0 ≡ get_or bytes.now k 0 }
+// The number of the first n bytes, the first of them highest; past the end each byte is 0.
+// As it is (3): a copy into a padded array, tried, has six registers saved on each read of over a bit, past the end or not.
+fn first_bytes(bytes: &[u8], n: usize) -> u64
+    requires { n ≤ 8 }
+    ensures { result ≡ field_at bytes.now 0 (8 * n) }
 {
-    match bytes.first_chunk() {
-        Some(all) => *all,
-        None => {
-            let mut padded = [0; N];
-            padded[..bytes.len()].copy_from_slice(bytes);
-            padded
-        }
+    let mut number = 0;
+    for i in 0..n {
+        let byte = bytes.get(i).copied().unwrap_or(0);
+        number = number * 256 + byte as u64;
     }
+    number
 }
 
-// The 16 bits of the first two bytes.
+// The 16 bits of the first two bytes, at once where both stand inside.
+// As it is (2): one generic function with `window`, tried, gives an array, which costs what it does in `first_bytes`.
 fn pair(bytes: &[u8]) -> u32
     ensures { result ≡ field_at bytes.now 0 16 }
 {
-    u32::from(u16::from_be_bytes(padded(bytes)))
+    match bytes.first_chunk::<2>() {
+        Some(two) => u32::from(u16::from_be_bytes(*two)),
+        None => first_bytes(bytes, 2) as u32,
+    }
 }
 
-// The 64 bits of the first eight bytes.
+// The 64 bits of the first eight bytes, at once where all of them stand inside.
 fn window(bytes: &[u8]) -> u64
     ensures { result ≡ field_at bytes.now 0 64 }
 {
-    u64::from_be_bytes(padded(bytes))
+    match bytes.first_chunk::<8>() {
+        Some(eight) => u64::from_be_bytes(*eight),
+        None => first_bytes(bytes, 8),
+    }
 }
 
 // Where the window of eight bytes starts in which byte i of n is looked for: there, or so far before that the window ends with
@@ -79,6 +86,7 @@ fn short_field(bytes: &[u8], skipped: u32, width: u32) -> u32
 // The field of a width, 32 at the most, at any place; its bits past the end are 0. Where the width is known, compilers keep
 // only its own way. A wide field stands in the window that is laid for it, or else reaches past the end.
 // As it is (6): a place among bits is what is asked for, and the window may begin before the place's byte.
+// As it is (2): a short field's rest was tried by `lists::behind`, which adds the choice of an empty rest's address to each read.
 pub fn field_at(bytes: &[u8], at: usize, width: u32) -> u32
     ensures { result ≡ field_at bytes.now at (field_width width) }
 {
@@ -86,12 +94,16 @@ pub fn field_at(bytes: &[u8], at: usize, width: u32) -> u32
         return bit_at(bytes, at);
     }
     if width <= 8 {
-        return short_field(lists::behind(bytes, at / 8), (at % 8) as u32, width);
+        let Some(rest) = bytes.get(at / 8..) else {
+            return 0;
+        };
+        return short_field(rest, (at % 8) as u32, width);
     }
     let w = bits::field_width(width);
     let (near, skipped) = window_for(bytes, at);
     if skipped <= (64 - w) as usize {
         return field_in(near, skipped as u32, w);
     }
-    field_in(window(lists::behind(bytes, at / 8)), (at % 8) as u32, w)
+    let rest = lists::behind(bytes, at / 8);
+    field_in(first_bytes(rest, 8), (at % 8) as u32, w)
 }
