@@ -32,6 +32,7 @@ impl<'a> Text<'a> {
     }
 
     // Bytes behind what stands there, as many as there is room for.
+    // As it is (4): `fmt::Write` promises what was written where it answers `Ok` alone; what is put here is cut where there is no room, and never refused.
     pub fn put(&mut self, bytes: &[u8])
         ensures { Adds bytes.now self.old self.new }
     {
