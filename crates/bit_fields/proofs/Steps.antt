@@ -7,10 +7,10 @@ use native.Mathlib.Nat.{one-mul}
 use native.Mathlib.Omega.{arith}
 use lib.Dec.{ltb, lit<, lit≤}
 use lib.ListN.{length, get_or, drop}
-use lib.Pow.{shl_exact, pow_mono}
+use lib.Pow.{shl_exact}
 use Rattle.bits.specs.Bits.{field_at, field_width}
 use Rattle.bits.specs.RestLaws.{rest_field}
-use Rattle.bits.specs.FieldLaws.{field_lt, bit_past_end, field_split, field_within, field_byte}
+use Rattle.bits.specs.FieldLaws.{bit_past_end, field_split, field_within, field_byte}
 
 -- the power that a shift of 1 gives
 pub one_shl : (k w : ℕ) → k < w → 1 * 2 ^ k % 2 ^ w ≡ 2 ^ k
@@ -22,10 +22,6 @@ byte_more s i e f h =
     let q : 8 * i + 8 ≡ 8 * (i + 1) = omega arith in
     let z : 0 + 8 * i ≡ 8 * i = omega arith in
     rw (e, f, ← field_byte s i h) (rw (q, z) at (sym (field_split s 0 (8 * i) 8)))
-
--- up to seven bytes leave room for one more
-pub room_for_byte : (s : List ℕ) (i : ℕ) → i < 8 → field_at s 0 (8 * i) < 2 ^ 56
-room_for_byte s i h = let p : 2 ^ (8 * i) ≤ 2 ^ 56 = pow_mono {i = 8 * i} {j = 56} (omega arith) in omega (arith, field_lt s 0 (8 * i))
 
 -- past the end a field is 0
 pub field_past_end : (s : List ℕ) (at w : ℕ) → 8 * length s ≤ at → field_at s at w ≡ 0

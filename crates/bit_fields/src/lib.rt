@@ -1,41 +1,36 @@
 // Bits and fields of a byte slice, at any place: total functions, to which bits past the end are 0.
 #![tactic(auto)]
 
-ghost use Rattle.std.specs.Prelude.{◌≡◌, true, ◌+◌, ◌*◌, ◌-◌, ◌/◌, ◌%◌, ◌^◌, ◌<◌, ◌≤◌, length, get_or};
+ghost use Rattle.std.specs.Prelude.{ℕ, ◌≡◌, true, ◌+◌, ◌*◌, ◌-◌, ◌/◌, ◌%◌, ◌^◌, ◌<◌, ◌≤◌, length, get_or};
 ghost use Rattle.bits.specs.Bits.{bit_at, field_at, field_width};
 ghost use Rattle.bit_fields.specs.Window.{window_start};
 
-// The number of the first n bytes, the first of them highest; past the end each byte is 0.
-fn first_bytes(bytes: &[u8], n: usize) -> u64
-    requires { n ≤ 8 }
-    ensures { result ≡ field_at bytes.now 0 (8 * n) }
+// The first N bytes, at once where all of them stand inside; past the end each byte is 0.
+fn padded<const N: usize>(bytes: &[u8]) -> [u8; N]
+    ensures { (k : ℕ) → k < N → get_or result k 0 ≡ get_or bytes.now k 0 }
 {
-    let mut number = 0;
-    for i in 0..n {
-        let byte = bytes.get(i).copied().unwrap_or(0);
-        number = number * 256 + byte as u64;
+    match bytes.first_chunk() {
+        Some(all) => *all,
+        None => {
+            let mut padded = [0; N];
+            padded[..bytes.len()].copy_from_slice(bytes);
+            padded
+        }
     }
-    number
 }
 
-// The 16 bits of the first two bytes, at once where both stand inside.
+// The 16 bits of the first two bytes.
 fn pair(bytes: &[u8]) -> u32
     ensures { result ≡ field_at bytes.now 0 16 }
 {
-    match bytes.first_chunk::<2>() {
-        Some(two) => u32::from(u16::from_be_bytes(*two)),
-        None => first_bytes(bytes, 2) as u32,
-    }
+    u32::from(u16::from_be_bytes(padded(bytes)))
 }
 
-// The 64 bits of the first eight bytes, at once where all of them stand inside.
+// The 64 bits of the first eight bytes.
 fn window(bytes: &[u8]) -> u64
     ensures { result ≡ field_at bytes.now 0 64 }
 {
-    match bytes.first_chunk::<8>() {
-        Some(eight) => u64::from_be_bytes(*eight),
-        None => first_bytes(bytes, 8),
-    }
+    u64::from_be_bytes(padded(bytes))
 }
 
 // Where the window of eight bytes starts in which byte i of n is looked for: there, or so far before that the window ends with
@@ -43,10 +38,7 @@ fn window(bytes: &[u8]) -> u64
 fn window_start(n: usize, i: usize) -> usize
     ensures { result ≡ window_start n i }
 {
-    if n < 8 {
-        return 0;
-    }
-    if i < n - 8 { i } else { n - 8 }
+    i.min(n.saturating_sub(8))
 }
 
 // The window that is laid for a place's byte, as one number, and how many of its bits stand before the place.
@@ -94,16 +86,12 @@ pub fn field_at(bytes: &[u8], at: usize, width: u32) -> u32
         return bit_at(bytes, at);
     }
     if width <= 8 {
-        let Some(rest) = bytes.get(at / 8..) else {
-            return 0;
-        };
-        return short_field(rest, (at % 8) as u32, width);
+        return short_field(lists::behind(bytes, at / 8), (at % 8) as u32, width);
     }
     let w = bits::field_width(width);
     let (near, skipped) = window_for(bytes, at);
     if skipped <= (64 - w) as usize {
         return field_in(near, skipped as u32, w);
     }
-    let rest = lists::behind(bytes, at / 8);
-    field_in(first_bytes(rest, 8), (at % 8) as u32, w)
+    field_in(window(lists::behind(bytes, at / 8)), (at % 8) as u32, w)
 }

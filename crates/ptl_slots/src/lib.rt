@@ -22,22 +22,15 @@ pub fn sum_numbers(numbers: &[u32], count: u32) -> usize
         .fold(0, |sum: usize, v| sum.saturating_add(*v as usize))
 }
 
-// The number of the first four bits, the highest first; bits are not checked.
-fn four_bits(bits: &[u32]) -> usize
-    ensures { (result ≡ number_of 0 (standing 4 0 bits.now)) × (result < 2 ^ 36) }
-{
-    let first = number_at(bits, 0) as usize;
-    let second = number_at(bits, 1) as usize;
-    let third = number_at(bits, 2) as usize;
-    let fourth = number_at(bits, 3) as usize;
-    ((first * 2 + second) * 2 + third) * 2 + fourth
-}
-
 // How many constraints follow the fixed ones, by the bits that stand 70 to 77 numbers behind the constraints' length.
 pub fn more_constraints(length: &[u32]) -> usize
     ensures { (result ≡ more_constraints length.now) × (result < 2 ^ 41) }
 {
-    four_bits(behind(length, 70)) * 16 + four_bits(behind(length, 74))
+    let mut more = 0;
+    for i in 70..78 {
+        more = 2 * more + number_at(length, i) as usize;
+    }
+    more
 }
 
 // What stands behind the head, the profile and the tier, where they are present, the level, and two flags.

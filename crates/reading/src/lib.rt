@@ -57,7 +57,7 @@ impl<'a> Reading<'a> {
     {
         self.reach()?;
         let at = self.at;
-        self.at = at + width.min(32) as usize;
+        self.at = at + field_width(width) as usize;
         Ok(bit_fields::field_at(self.bytes, at, width))
     }
 

@@ -42,7 +42,7 @@ fn count_row(multi: u32, more: bool) -> u32
     requires { multi < 1000 }
     ensures { result ≡ multi + digit more }
 {
-    if more { multi + 1 } else { multi }
+    multi + u32::from(more)
 }
 
 // How many sets there are, and how many have more than one layer.

@@ -3,7 +3,7 @@ use Rattle.std.proofs.Common.{rules, ◌≡◌, ◌∙◌}
 use Rattle.bit_fields.proofs.Steps.{eight, eight_bytes}
 use Rattle.bit_fields.proofs.window.Goals as goal
 
-pub returns-in-Some : goal.returns-in-Some
-returns-in-Some c =
+pub returns : goal.returns
+returns c =
     let p : c.from_be_bytes.result ≡ eight c.args.bytes.now = search rules in
     p ∙ eight_bytes c.args.bytes.now (λ k. (c.type_inv.bytes k).fits)
