@@ -8,4 +8,4 @@ pub returns : goal.returns
 unfolding slot_at
 returns c i h =
     let rec = c.args.self.now.rec.now in
-    c.behind_slot.ensures rec ∙ ap (next_slot rec) h ∙ ap (λ (k : ℕ). slot_at k rec (drop c.args.self.now.c rec)) (sym (add-one i))
+    c.place_behind.ensures.rest ∙ ap (next_slot rec) h ∙ ap (λ (k : ℕ). slot_at k rec (drop c.args.self.now.c rec)) (sym (add-one i))
