@@ -8,6 +8,7 @@ use table_steps::{Parts, Steps};
 
 // A reading: the RBSP and the place among its bits, the lent record and the place of its next number. Numbers behind the
 // record's end are counted and not stored.
+// As it is (5): `bytes` and `at` are what a `BitReader` is; held as one, a code's step is shorter and each other use of the two longer.
 #[derive(Drop)]
 pub struct Reading<'a> {
     pub bytes: &'a [u8],

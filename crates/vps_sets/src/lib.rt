@@ -144,6 +144,7 @@ fn mode_idc<S: Steps>(steps: &mut S, h: Header, each: u32) -> Result<u32, Refusa
 }
 
 // The output layer sets: how many there are in all, and how many with more than one layer; and where they start in the record.
+// As it is (1): flag and mode stay numbers, as they come from their steps and go into the General section.
 #[derive(Clone, Copy)]
 pub struct Sets {
     pub each_layer_flag: u32,
