@@ -6,6 +6,7 @@ ghost use Rattle.bits.specs.Bits.{bit_at, field_at, field_width};
 ghost use Rattle.bit_fields.specs.Window.{window_start};
 
 // The number of the first n bytes, the first of them highest; past the end each byte is 0.
+// As it is (3): a copy into a padded array, tried, has six registers saved on each read of over a bit, past the end or not.
 fn first_bytes(bytes: &[u8], n: usize) -> u64
     requires { n ≤ 8 }
     ensures { result ≡ field_at bytes.now 0 (8 * n) }
@@ -19,6 +20,7 @@ fn first_bytes(bytes: &[u8], n: usize) -> u64
 }
 
 // The 16 bits of the first two bytes, at once where both stand inside.
+// As it is (2): one generic function with `window`, tried, gives an array, which costs what it does in `first_bytes`.
 fn pair(bytes: &[u8]) -> u32
     ensures { result ≡ field_at bytes.now 0 16 }
 {
@@ -43,10 +45,7 @@ fn window(bytes: &[u8]) -> u64
 fn window_start(n: usize, i: usize) -> usize
     ensures { result ≡ window_start n i }
 {
-    if n < 8 {
-        return 0;
-    }
-    if i < n - 8 { i } else { n - 8 }
+    i.min(n.saturating_sub(8))
 }
 
 // The window that is laid for a place's byte, as one number, and how many of its bits stand before the place.
@@ -87,6 +86,7 @@ fn short_field(bytes: &[u8], skipped: u32, width: u32) -> u32
 // The field of a width, 32 at the most, at any place; its bits past the end are 0. Where the width is known, compilers keep
 // only its own way. A wide field stands in the window that is laid for it, or else reaches past the end.
 // As it is (6): a place among bits is what is asked for, and the window may begin before the place's byte.
+// As it is (2): a short field's rest was tried by `lists::behind`, which adds the choice of an empty rest's address to each read.
 pub fn field_at(bytes: &[u8], at: usize, width: u32) -> u32
     ensures { result ≡ field_at bytes.now at (field_width width) }
 {

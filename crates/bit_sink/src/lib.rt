@@ -73,6 +73,7 @@ impl Sink<'_> {
     }
 
     // Stores the whole bytes of a number's bits.
+    // As it is (4): `to_be_bytes` gives eight bytes, of which the last count / 8 would be cut out besides the shift, where it is hottest.
     fn store_bytes(&mut self, joined: Joined)
         ensures { Stores (pack (bits_of joined.count joined.value)) self.old self.new }
     {

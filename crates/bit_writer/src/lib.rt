@@ -40,9 +40,8 @@ fn put_field(out: &mut [u8], at: usize, value: u64, width: u32)
     requires { (at < 2 ^ 63) × (width ≤ 64) × (at + width ≤ 8 * length out.old) }
     ensures { out.new ≡ set_bits out.old at (bits_of width value) }
 {
-    for i in (0..width).rev() {
-        let bit = (value >> i) % 2;
-        put_bit(out, at + (width - 1 - i) as usize, bit as u32);
+    for (i, at) in (0..width).rev().zip(at..) {
+        put_bit(out, at, ((value >> i) % 2) as u32);
     }
 }
 

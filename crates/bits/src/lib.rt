@@ -29,7 +29,7 @@ pub fn place(at: usize) -> Result<usize, Refusal>
 pub fn field_width(width: u32) -> u32
     ensures { (result ≡ field_width width) × (result ≤ 32) }
 {
-    if width < 32 { width } else { 32 }
+    width.min(32)
 }
 
 // How many bits there are from a place to the next byte boundary: none at one.

@@ -1,12 +1,13 @@
 -- How `skim` goes over profile_tier_level().
-use Rattle.std.specs.Prelude.{ℕ, ◌+◌, ◌*◌, ◌-◌, ◌≡◌, refl, List, Bool, true, false, eqb, get_or}
+use Rattle.std.specs.Prelude.{ℕ, suc, ◌+◌, ◌*◌, ◌-◌, ◌^◌, ◌<◌, ◌≤◌, ◌≡◌, refl, List, [], ◌∷◌, ◌++◌, Bool, true, false, eqb, get_or}
 use Rattle.std.proofs.Common.{sym, ap₂, ◌∙◌, arith, eq-eqb, ne_eqb}
 use Rattle.std.proofs.Math.Path.{ap}
 use Rattle.std.proofs.Math.ListN.{drop}
+use Rattle.std.proofs.Math.Nat.{pow-succ'}
 use Rattle.vps_definition.specs.Syntax.{skim}
 use Rattle.vps_definition.specs.Words.{sum, when}
 use Rattle.vps_definition.specs.ProfileTierLevel.{number_of, constraint_bit, constraints, constraints_if, general_constraints_info, profile_and_tier, sub_profile, sub_profiles, profile_tier_level}
-use Rattle.ptl_slots.specs.Standing.{standing, standing_behind, standing_past, drop_behind}
+use Rattle.ptl_slots.specs.Standing.{standing, standing_behind, standing_last, drop_behind}
 use Rattle.ptl_slots.specs.Skims.{EndsIn, ends_in, Skims, skims_then, skims_all, skims_to, skims_nothing, skims_yes, skims_no, skims_u, skims_inferred, skims_keep_nothing, skims_aligned, skims_standing, skims_fields, skims_ahead, skims_reversed}
 
 -- the record's rest behind the slot that it begins with, unchecked
@@ -21,13 +22,37 @@ slot_ends rec y = ends_in (profile_tier_level (get_or y 0 0) (get_or y 1 0)) rec
 abbrev pub more_constraints : List ℕ → ℕ
 more_constraints x = number_of 0 (standing 8 70 x)
 
-pub four_bits : {a b c d : ℕ} (x : List ℕ) → a ≡ get_or x 0 0 → b ≡ get_or x 1 0 → c ≡ get_or x 2 0 → d ≡ get_or x 3 0 → ((a * 2 + b) * 2 + c) * 2 + d ≡ number_of 0 (standing 4 0 x)
-unfolding number_of standing
-four_bits x e f g h = omega (arith, e, f, g, h)
+-- a bit more at the end of some bits
+number_more : (n b : ℕ) (x : List ℕ) → number_of n (x ++ (b ∷ [])) ≡ number_of n x * 2 + b
+unfolding number_of
+number_more n b [] = refl
+number_more n b (v ∷ x) = number_more (n * 2 + v) b x
 
-pub eight_bits : (x : List ℕ) → number_of 0 (standing 4 0 (drop 70 x)) * 16 + number_of 0 (standing 4 0 (drop 74 x)) ≡ more_constraints x
+-- no bit yet
+pub bits_begin : (x : List ℕ) → 0 ≡ number_of 0 (standing 0 70 x)
 unfolding number_of standing
-eight_bits x = omega (arith, ap (number_of 0) (standing_past 4 70 0 x), ap (number_of 0) (standing_past 4 74 0 x))
+bits_begin x = refl
+
+-- the next of the eight bits
+pub bits_turn : (i : ℕ) (x : List ℕ) {n b : ℕ} → 70 ≤ i → n ≡ number_of 0 (standing (i - 70) 70 x) → b ≡ get_or x i 0 → 2 * n + b ≡ number_of 0 (standing (i + 1 - 70) 70 x)
+bits_turn i x l e f =
+    let k : i + 1 - 70 ≡ i - 70 + 1 = omega arith in
+    let j : 70 + (i - 70) ≡ i = omega arith in
+    omega (
+      arith,
+      e,
+      f,
+      ap (λ (m : ℕ). number_of 0 (standing m 70 x)) k,
+      ap (number_of 0) (standing_last (i - 70) 70 x),
+      number_more 0 (get_or x (70 + (i - 70)) 0) (standing (i - 70) 70 x),
+      ap (λ (m : ℕ). get_or x m 0) j,
+    )
+
+-- which leaves room for those that follow, whatever the numbers are
+pub bits_room : (i n b : ℕ) → 70 ≤ i → n + 2 ^ 32 ≤ 2 ^ (i - 38) → b < 2 ^ 32 → 2 * n + b + 2 ^ 32 ≤ 2 ^ (i + 1 - 38)
+bits_room i n b l r h =
+    let k : i + 1 - 38 ≡ suc (i - 38) = omega arith in
+    omega (arith, r, h, ap (λ (m : ℕ). 2 ^ m) k, pow-succ' 2 (i - 38))
 
 -- ── Constraints ───────────────────────────────────────────────────────
 skims_constraints : {r x : List ℕ} → Skims constraints r x tt (drop (78 + more_constraints x) x)

@@ -9,35 +9,27 @@ ghost use Rattle.ptl_slots.specs.Standing.{standing, Capped};
 ghost use Rattle.ptl_slots.specs.Skims.{Skims};
 ghost use Rattle.ptl_slots.specs.Slot.{next_slot, more_constraints, front_of};
 
-use lists::behind;
+use lists::{behind, front};
 use record_parts::number_at;
 
 // The sum of so many numbers, or more than there are numbers where that is so.
 pub fn sum_numbers(numbers: &[u32], count: u32) -> usize
     ensures { Capped (length numbers.now) (sum (standing count 0 numbers.now)) result }
 {
-    let first = numbers.get(..count as usize).unwrap_or(numbers);
-    first
+    front(numbers, count as usize)
         .iter()
         .fold(0, |sum: usize, v| sum.saturating_add(*v as usize))
-}
-
-// The number of the first four bits, the highest first; bits are not checked.
-fn four_bits(bits: &[u32]) -> usize
-    ensures { (result ≡ number_of 0 (standing 4 0 bits.now)) × (result < 2 ^ 36) }
-{
-    let first = number_at(bits, 0) as usize;
-    let second = number_at(bits, 1) as usize;
-    let third = number_at(bits, 2) as usize;
-    let fourth = number_at(bits, 3) as usize;
-    ((first * 2 + second) * 2 + third) * 2 + fourth
 }
 
 // How many constraints follow the fixed ones, by the bits that stand 70 to 77 numbers behind the constraints' length.
 pub fn more_constraints(length: &[u32]) -> usize
     ensures { (result ≡ more_constraints length.now) × (result < 2 ^ 41) }
 {
-    four_bits(behind(length, 70)) * 16 + four_bits(behind(length, 74))
+    let mut more = 0;
+    for i in 70..78 {
+        more = 2 * more + number_at(length, i) as usize;
+    }
+    more
 }
 
 // What stands behind the head, the profile and the tier, where they are present, the level, and two flags.

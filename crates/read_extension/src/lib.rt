@@ -24,6 +24,7 @@ pub fn data_bits(reader: &BitReader<'_>) -> usize
 }
 
 // Stores as many bits as there are places, from a reader's place on.
+// As it is (3): tried `(bit_pos..).zip(numbers)`; behind such a loop nothing is known of the numbers that it was lent.
 pub fn store_bits(reader: &BitReader<'_>, numbers: &mut [u32])
     ensures { reader.now.bit_pos + length numbers.old < 2 ^ 64 → numbers.new ≡ bits_at reader.now.bytes.now reader.now.bit_pos (length numbers.old) }
 {

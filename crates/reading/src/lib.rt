@@ -8,6 +8,7 @@ use table_steps::{Parts, Steps};
 
 // A reading: the RBSP and the place among its bits, the lent record and the place of its next number. Numbers behind the
 // record's end are counted and not stored.
+// As it is (5): `bytes` and `at` are what a `BitReader` is; held as one, a code's step is shorter and each other use of the two longer.
 #[derive(Drop)]
 pub struct Reading<'a> {
     pub bytes: &'a [u8],
@@ -57,7 +58,7 @@ impl<'a> Reading<'a> {
     {
         self.reach()?;
         let at = self.at;
-        self.at = at + width.min(32) as usize;
+        self.at = at + field_width(width) as usize;
         Ok(bit_fields::field_at(self.bytes, at, width))
     }
 

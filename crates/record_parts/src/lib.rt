@@ -57,11 +57,11 @@ impl Record {
 }
 
 // Number i of a record; 0 past the end.
-// As it is (6): the index is what is asked, and `rec.get(i).copied().unwrap_or(0)` at each caller says no more.
+// As it is (6): the index is what is asked; without it each caller would repeat `get(i).copied().unwrap_or(0)`.
 pub fn number_at(rec: &[u32], i: usize) -> u32
     ensures { result ≡ get_or rec.now i 0 }
 {
-    if i < rec.len() { rec[i] } else { 0 }
+    rec.get(i).copied().unwrap_or(0)
 }
 
 // Where the trailer starts.

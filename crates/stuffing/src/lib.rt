@@ -96,7 +96,7 @@ fn more_before(before: usize, last: usize) -> usize
     ensures more { result ≡ more_in before last }
     ensures one { result ≤ 1 }
 {
-    if before == 0 && last == 0 { 1 } else { 0 }
+    usize::from(before == 0 && last == 0)
 }
 
 // Counts what adding makes, and stores it where STORES says so, in the same way. Before a byte up to 03 a 03 is stored; the byte

@@ -16,6 +16,7 @@ pub trait Parts: Steps {
     type Slot: Copy;
 
     // Slot i of those that begin at the record's next number stands at this place.
+    // As it is (5): it is said of a walk's state, too, which each step changes; a struct of a place and a ghost i holds no state, so each step would have to hand out a new one.
     ghost stands: { ℕ → Self → Self.Slot → Type 0 };
 
     // The place of the first slot.

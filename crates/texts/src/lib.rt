@@ -4,6 +4,8 @@
 ghost use Rattle.std.specs.Prelude.{◌≡◌, take};
 ghost use Rattle.texts.specs.Adds.{Adds};
 
+use lists::front;
+
 // A lent slice, and the place behind the text that stands in it so far.
 // As it is (6): `so_far` gives the bytes before the place back, so the slice stays whole: a rest alone would have let go of them.
 #[derive(Drop)]
@@ -26,10 +28,11 @@ impl<'a> Text<'a> {
     pub fn so_far(&self) -> &[u8]
         ensures { result.now ≡ take self.now.place self.now.bytes.now }
     {
-        self.bytes.get(..self.place).unwrap_or(self.bytes)
+        front(self.bytes, self.place)
     }
 
     // Bytes behind what stands there, as many as there is room for.
+    // As it is (4): `fmt::Write` promises what was written where it answers `Ok` alone; what is put here is cut where there is no room, and never refused.
     pub fn put(&mut self, bytes: &[u8])
         ensures { Adds bytes.now self.old self.new }
     {

@@ -8,7 +8,7 @@ use refusals::Refusal;
 use table_steps::Steps;
 
 // The first fields of a VPS.
-// As it is (1): flags stay numbers, since the record keeps them and a written record may hold any.
+// As it is (1): the flags stay numbers, as the record keeps them and the definition has them; as bools each clause, and each use of them as a number, would turn them back.
 #[derive(Clone, Copy)]
 pub struct Header {
     pub id: u32,

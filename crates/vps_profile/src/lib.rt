@@ -9,7 +9,7 @@ use refusals::Refusal;
 use table_steps::Parts;
 
 // What is coded of a slot before all slots.
-// As it is (1): the flag stays a number, since the record keeps it and a written record may hold any.
+// As it is (1): the flag stays a number, as the record keeps it and the definition has it; as a bool it would be turned back where it is stored, and in each clause.
 #[derive(Clone, Copy)]
 pub struct SlotHead {
     pub present: u32,

@@ -37,7 +37,7 @@ impl Parsed {
     pub fn record_in(self, lent: &[u32]) -> &[u32]
         ensures { result.now ≡ take self.numbers lent.now }
     {
-        lent.get(..self.numbers).unwrap_or(lent)
+        lists::front(lent, self.numbers)
     }
 }
 

@@ -42,7 +42,7 @@ fn count_row(multi: u32, more: bool) -> u32
     requires { multi < 1000 }
     ensures { result ≡ multi + digit more }
 {
-    if more { multi + 1 } else { multi }
+    multi + u32::from(more)
 }
 
 // How many sets there are, and how many have more than one layer.
@@ -72,8 +72,7 @@ impl Layers<'_> {
     fn masks(&self) -> &[u64]
         ensures { result.now ≡ take self.now.h.layers self.now.closed.now }
     {
-        let n = self.h.layers as usize;
-        self.closed.get(..n).unwrap_or(self.closed)
+        lists::front(self.closed, self.h.layers as usize)
     }
 
     // The rows; each row's output layers, with all that these reach, are one or several layers.
@@ -145,6 +144,7 @@ fn mode_idc<S: Steps>(steps: &mut S, h: Header, each: u32) -> Result<u32, Refusa
 }
 
 // The output layer sets: how many there are in all, and how many with more than one layer; and where they start in the record.
+// As it is (1): flag and mode stay numbers, as they come from their steps and go into the General section.
 #[derive(Clone, Copy)]
 pub struct Sets {
     pub each_layer_flag: u32,

@@ -6,6 +6,7 @@ use table_steps::Steps;
 use vps_fields::Header;
 
 // The sublayer flag of the DPB section, and where each of the two sections starts.
+// As it is (1): the flag stays a number, as it comes from its step and goes into the General section.
 #[derive(Clone, Copy)]
 pub struct Buffers {
     pub flag: u32,

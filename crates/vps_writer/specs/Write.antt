@@ -69,12 +69,12 @@ module _ {r out : List ℕ} {s : Writing} (b : Begun r out s) where
   table_bad M = (M.emits.says.0, table_fails r (subst (Fails 0) (sym begins) (M.emits.says.1 2 [] out b.ready)))
 
   -- the record that the table has taken ends as the code found
-  pub table_ends : {s₁ : Writing} {g l general trailer : List ℕ} {flag : ℕ} (x : Result ℕ Refusal) (out₂ : List ℕ) → Marked vps s (Ok g) s₁ l → length g ≡ 9 → length l ≡ 7
-      → general ≡ g → trailer ≡ l ++ (length r ∷ []) → flag ≡ get_or g 8 0
-      → ((start : ℕ) (d lent : List ℕ) (t : List Token) → Ready start d s₁ lent → Taken s₁.rec.now general t s₁.c → trailer ≡ trailer_of s₁.rec.now t → get_or general 8 0 ≡ flag
+  pub table_ends : {s₁ : Writing} {g l general trailer : List ℕ} (x : Result ℕ Refusal) (out₂ : List ℕ) → Marked vps s (Ok g) s₁ l → length g ≡ 9 → length l ≡ 7
+      → general ≡ g → trailer ≡ l ++ (length r ∷ [])
+      → ((start : ℕ) (d lent : List ℕ) (t : List Token) → Ready start d s₁ lent → Taken s₁.rec.now general t s₁.c → trailer ≡ trailer_of s₁.rec.now t
       → Finishes (finished s₁.rec.now (wrote general t (drop s₁.c s₁.rec.now) d)) start lent x out₂)
       → Finishes (write_record r) 2 out x out₂
-  table_ends {s₁} {g} {l} {general} {trailer} {flag} x out₂ M nine seven same last is N =
+  table_ends {s₁} {g} {l} {general} {trailer} x out₂ M nine seven same last N =
       let W = M.emits.says 2 [] out b.ready in
       let q : s₁.rec.now ≡ r = (λ i. (M.emits.stays.rec i).now) ∙ b.rec in
       let i : emit vps r (drop 9 r) 0 ≡ wrote g W.tokens (drop s₁.c r) W.bits = begins ∙ W.is ∙ ap (λ (z : List ℕ). wrote g W.tokens (drop s₁.c z) W.bits) b.rec in
@@ -85,7 +85,7 @@ module _ {r out : List ℕ} {s : Writing} (b : Begun r out s) where
         numbered = emit_numbers vps r (drop 9 r) 0 i;
         seven = ap length k ∙ seven;
       } in
-      let F = N 2 W.bits out W.tokens W.ready (subst (λ (z : List ℕ). Taken z general W.tokens s₁.c) (sym q) (subst (λ (z : List ℕ). Taken r z W.tokens s₁.c) (sym same) T)) (last ∙ (λ j. sym k j ++ (length (sym q j) ∷ []))) (ap (λ (z : List ℕ). get_or z 8 0) same ∙ sym is) in
+      let F = N 2 W.bits out W.tokens W.ready (subst (λ (z : List ℕ). Taken z general W.tokens s₁.c) (sym q) (subst (λ (z : List ℕ). Taken r z W.tokens s₁.c) (sym same) T)) (last ∙ (λ j. sym k j ++ (length (sym q j) ∷ []))) in
       subst (λ (y : Answer (List ℕ)). Finishes y 2 out x out₂) ((λ j. finished (q j) (wrote (same j) W.tokens (drop s₁.c (q j)) W.bits)) ∙ sym (table_wrote r i)) F
 
 -- lists with the same elements
@@ -94,19 +94,6 @@ same_numbers [] [] e h = refl
 same_numbers [] (y ∷ ys) e h = absurd (omega (arith, e))
 same_numbers (x ∷ xs) [] e h = absurd (omega (arith, e))
 same_numbers (x ∷ xs) (y ∷ ys) e h = λ j. h 0 (omega arith) j ∷ same_numbers xs ys (omega (arith, e)) (λ i l. h (suc i) (omega (arith, l))) j
-
--- the seven starts, and a number behind them
-pub seven_listed : (l : List ℕ) (n : ℕ) → length l ≡ 7
-    → get_or l 0 0 ∷ get_or l 1 0 ∷ get_or l 2 0 ∷ get_or l 3 0 ∷ get_or l 4 0 ∷ get_or l 5 0 ∷ get_or l 6 0 ∷ n ∷ [] ≡ l ++ (n ∷ [])
-seven_listed [] n e = absurd (omega (arith, e))
-seven_listed (a ∷ []) n e = absurd (omega (arith, e))
-seven_listed (a ∷ b ∷ []) n e = absurd (omega (arith, e))
-seven_listed (a ∷ b ∷ c ∷ []) n e = absurd (omega (arith, e))
-seven_listed (a ∷ b ∷ c ∷ d ∷ []) n e = absurd (omega (arith, e))
-seven_listed (a ∷ b ∷ c ∷ d ∷ f ∷ []) n e = absurd (omega (arith, e))
-seven_listed (a ∷ b ∷ c ∷ d ∷ f ∷ g ∷ []) n e = absurd (omega (arith, e))
-seven_listed (a ∷ b ∷ c ∷ d ∷ f ∷ g ∷ h ∷ []) n e = refl
-seven_listed (a ∷ b ∷ c ∷ d ∷ f ∷ g ∷ h ∷ i ∷ l) n e = absurd (omega (arith, e))
 
 -- what the first pass finds, in some output
 pub record Measured (r : List ℕ) (x : Result ℕ Refusal) : Type 0 where

@@ -27,9 +27,9 @@ fn put_rbsp(rec: &[u32], out: &mut [u8]) -> Result<usize, Refusal>
     let mut writing = Writing::new(rec, out, HEADER, Record::GENERAL);
     let whole = Whole::of(&mut writing)?;
     let general = whole.general.map(|number| number as usize);
-    let [layers, sets, ptls, olss, dpb, timing, extension] = whole.starts;
-    let trailer = [layers, sets, ptls, olss, dpb, timing, extension, rec.len()];
-    write_end::write_end(&mut writing, whole.extension_flag(), &general, &trailer)
+    let mut trailer = [rec.len(); Record::TRAILER];
+    trailer[..Record::STARTS].copy_from_slice(&whole.starts);
+    write_end::write_end(&mut writing, &general, &trailer)
 }
 
 // The first pass: nothing is stored.

@@ -102,7 +102,7 @@ module _ {r g : List ℕ} {t : List Token} {c : ℕ} (T : Taken r g t c) where
   no_count h = not_looked (λ A. omega (arith, h, A.total, length-drop c r))
 
   -- by the numbers that the code has in hand: the count, and what stands behind it
-  module _ {count flag : ℕ} {bits l : List ℕ} (x : drop c r ≡ count ∷ bits) (q : l ≡ trailer_of r t) (f : get_or g 8 0 ≡ flag) where
+  module _ {count : ℕ} {bits l : List ℕ} (x : drop c r ≡ count ∷ bits) (q : l ≡ trailer_of r t) where
     n : count ≡ count_in r c
     n = sym (ap (λ (y : List ℕ). get_or y 0 0) x)
 
@@ -123,14 +123,14 @@ module _ {r g : List ℕ} {t : List Token} {c : ℕ} (T : Taken r g t c) where
       pub no_trailer : (Stands end l → ⊥) → Looked r g t c false
       no_trailer h = not_looked (λ A. h ((λ i. take (length (q i)) (there i)) ∙ A.trailer ∙ sym q))
 
-      pub looked : (b : Bool) → length end ≡ 8 → Stands r g → Stands end l → b ≡ may_extend flag count → Looked r g t c b
+      pub looked : (b : Bool) → length end ≡ 8 → Stands r g → Stands end l → b ≡ may_extend (get_or g 8 0) count → Looked r g t c b
       looked true k s u o = record {
         total = omega (arith, k, m, n, length-drop c r, ap length x);
         general = s;
         trailer = (λ i. take (length (sym q i)) (sym there i)) ∙ u ∙ q;
-        may = (λ i. may_extend (f i) (sym n i)) ∙ sym o;
+        may = (λ i. may_extend (get_or g 8 0) (sym n i)) ∙ sym o;
       }
-      looked false k s u o = not_looked (λ A. absurd (true≢false (sym A.may ∙ (λ i. may_extend (f i) (sym n i)) ∙ sym o)))
+      looked false k s u o = not_looked (λ A. absurd (true≢false (sym A.may ∙ (λ i. may_extend (get_or g 8 0) (sym n i)) ∙ sym o)))
 
 -- ── The extension's table ─────────────────────────────────────────────
 -- the count, and so many flags

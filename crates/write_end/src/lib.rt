@@ -1,7 +1,7 @@
 // Writes a record's end: it is looked through from where the table's numbers end, and the extension and the trailing bits are put out.
 #![tactic(auto)]
 
-ghost use Rattle.std.specs.Prelude.{◌≡◌, List, ◌||◌, ℕ, ◌+◌, ◌-◌, ◌<◌, length, get_or, drop};
+ghost use Rattle.std.specs.Prelude.{◌≡◌, List, ◌||◌, ℕ, ◌+◌, ◌-◌, ◌<◌, length, drop};
 ghost use Rattle.vps_definition.specs.Syntax.{Token};
 ghost use Rattle.vps_definition.specs.Syntax.Written.{wrote};
 ghost use Rattle.vps_definition.specs.Writing.{finished};
@@ -30,15 +30,15 @@ fn has_numbers(numbers: &[u32], list: &[usize]) -> bool
 }
 
 // Whether extension bits may stand under a flag.
-fn may_extend(flag: u32, count: usize) -> bool
+fn may_extend(flag: usize, count: usize) -> bool
     ensures { result ≡ may_extend flag count }
 {
     flag == 1 || count == 0
 }
 
 // Whether the record ends as it must behind the table's numbers, its bits not looked at one by one.
-fn has_end(writing: &Writing, flag: u32, general: &[usize], trailer: &[usize]) -> bool
-    ensures { (t : List Token) → Taken writing.now.rec.now general.now t writing.now.c → trailer.now ≡ trailer_of writing.now.rec.now t → get_or general.now 8 0 ≡ flag → Looked writing.now.rec.now general.now t writing.now.c result }
+fn has_end(writing: &Writing, general: &[usize], trailer: &[usize]) -> bool
+    ensures { (t : List Token) → Taken writing.now.rec.now general.now t writing.now.c → trailer.now ≡ trailer_of writing.now.rec.now t → Looked writing.now.rec.now general.now t writing.now.c result }
 {
     let Some((count, bits)) = lists::behind(writing.rec, writing.c).split_first() else {
         return false;
@@ -55,6 +55,7 @@ fn has_end(writing: &Writing, flag: u32, general: &[usize], trailer: &[usize]) -
     if !has_numbers(end, trailer) {
         return false;
     }
+    let flag = general.get(Record::EXTENSION_FLAG).copied().unwrap_or(0);
     may_extend(flag, *count as usize)
 }
 
@@ -71,14 +72,13 @@ fn extension(writing: &mut Writing) -> Result<(), Refusal>
 // the output is used, or would be with room.
 pub fn write_end(
     writing: &mut Writing,
-    flag: u32,
     general: &[usize],
     trailer: &[usize],
 ) -> Result<usize, Refusal>
     ensures stays { Stays writing.old writing.new }
-    ensures ends { (start : ℕ) (d lent : List ℕ) (t : List Token) → Ready start d writing.old lent → Taken writing.old.rec.now general.now t writing.old.c → trailer.now ≡ trailer_of writing.old.rec.now t → get_or general.now 8 0 ≡ flag → Finishes (finished writing.old.rec.now (wrote general.now t (drop writing.old.c writing.old.rec.now) d)) start lent result writing.new.out.now }
+    ensures ends { (start : ℕ) (d lent : List ℕ) (t : List Token) → Ready start d writing.old lent → Taken writing.old.rec.now general.now t writing.old.c → trailer.now ≡ trailer_of writing.old.rec.now t → Finishes (finished writing.old.rec.now (wrote general.now t (drop writing.old.c writing.old.rec.now) d)) start lent result writing.new.out.now }
 {
-    if !has_end(writing, flag, general, trailer) {
+    if !has_end(writing, general, trailer) {
         return Err(Refusal::NotWellFormed);
     }
     extension(writing)?;

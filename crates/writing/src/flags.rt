@@ -31,9 +31,7 @@ impl<'a> Writing<'a> {
     pub fn flags(&mut self, count: usize) -> Result<(), Refusal>
         ensures { Emits (repeat count (kept_field 1)) self.old result self.new }
     {
-        let Some(flags) = self.rest().get(..count) else {
-            return Err(Refusal::NotWellFormed);
-        };
+        let flags = self.rest().get(..count).ok_or(Refusal::NotWellFormed)?;
         for group in flags.chunks(32) {
             let value = gather(group)?;
             self.push_field(value, group.len() as u32)?;

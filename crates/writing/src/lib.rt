@@ -20,6 +20,7 @@ mod flags;
 mod parts;
 
 // A record and a lent output, and how far the writing is. Behind a refusal no step is owed any more.
+// As it is (5): `out` and `so_far` are what `bit_sink::Sink` is; a `Sink` held here was tried: the proof of `vps_writer::put_rbsp` didn't close.
 #[derive(Drop)]
 pub struct Writing<'a> {
     pub rec: &'a [u32],
@@ -114,9 +115,7 @@ impl<'a> Writing<'a> {
     pub fn push_code(&mut self, value: u32) -> Result<(), Refusal>
         ensures { Pushes (ltb value 4294967295) (code_of value) self.old result self.new }
     {
-        let Some(code) = CodeNumber::of(value) else {
-            return Err(Refusal::NotWellFormed);
-        };
+        let code = CodeNumber::of(value).ok_or(Refusal::NotWellFormed)?;
         self.push(true, code.bits() as usize, |sink| sink.put_code(value))
     }
 
@@ -220,7 +219,7 @@ impl<'a> Steps for Writing<'a> {
 
     #[inline]
     fn layers_minus1(&mut self) -> Result<u32, Refusal> {
-        self.late(number_at(self.rec, 0).saturating_sub(1), 6)
+        self.late(number_at(self.rec, Record::LAYERS).saturating_sub(1), 6)
     }
 
     // The bits are zeros, whatever a reader refuses.

@@ -24,6 +24,7 @@ impl<'a> Writing<'a> {
 
 impl<'a> Parts for Writing<'a> {
     // A slot's place is where it stands in the record.
+    // As it is (6): given as the record's rest from there on, a slot would leave unsaid what `place_behind` promises of the place.
     type Slot = usize;
 
     ghost stands = { λ i s slot. drop slot s.rec.now ≡ slot_at i s.rec.now (drop s.c s.rec.now) };
@@ -48,9 +49,10 @@ impl<'a> Parts for Writing<'a> {
     }
 
     fn reversed(&mut self, count: u32, width: u32) -> Result<usize, Refusal> {
-        let Some(numbers) = self.rest().get(..count as usize) else {
-            return Err(Refusal::NotWellFormed);
-        };
+        let numbers = self
+            .rest()
+            .get(..count as usize)
+            .ok_or(Refusal::NotWellFormed)?;
         let mut sum = 0;
         for &v in numbers.iter().rev() {
             self.push_field(v, width)?;
