@@ -2,10 +2,9 @@
 // buffer afterwards. A step has 9 bytes: step, width, value, number, place behind. A refused step leaves the place and
 // is not read.
 use crate::content::is_buffer_same;
-use crate::expected::{Expected, Front, Step, outcome};
+use crate::expected::{Expected, Front, Step};
 use crate::{reading, writing};
-use replay_list::UnknownTag;
-use replay_numbers::Content;
+use replay_numbers::{Content, outcome};
 
 // The bytes of a step.
 const LINK_BYTES: usize = 9;
@@ -18,14 +17,14 @@ struct Link {
 }
 
 impl Link {
-    // The next of the steps, at a place.
-    fn next(steps: &mut Content, at: usize) -> Result<Link, UnknownTag> {
-        let step = Step::try_from(steps.byte())?;
+    // The next of the steps, at a place; none where no step has its tag, or no refusal its number.
+    fn next(steps: &mut Content, at: usize) -> Option<Link> {
+        let step = Step::try_from(steps.byte()).ok()?;
         let width = u32::from(steps.byte());
         let value = steps.four_bytes();
         let number = u32::from(steps.byte());
-        let next = outcome(number, steps.two_bytes() as usize);
-        Ok(Link {
+        let next = outcome(number, steps.two_bytes() as usize).ok()?;
+        Some(Link {
             step,
             front: Front {
                 at,
@@ -47,7 +46,7 @@ fn are_steps<F: Fn(Step, &mut [u8], Front) -> bool>(
 {
     let mut at = 0;
     for _ in 0..count {
-        let Ok(Link { step, front }) = Link::next(&mut steps, at) else {
+        let Some(Link { step, front }) = Link::next(&mut steps, at) else {
             return false;
         };
         if !is_step(step, out, front) {

@@ -13,5 +13,5 @@ pub(crate) fn is_buffer_same<F: FnOnce(&mut [u8]) -> bool>(
         return false;
     };
     out.copy_from_slice(before);
-    replay(out) && check::same(out, after)
+    replay(out) && &*out == after
 }

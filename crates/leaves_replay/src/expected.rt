@@ -1,7 +1,7 @@
 // What a case of a step is asked with and expects, and the steps by their numbers.
-use refusals::Refusal;
+use refusals::{NoRefusal, Refusal};
 use replay_list::UnknownTag;
-use replay_numbers::Content;
+use replay_numbers::{Content, outcome};
 
 // A step of the bit reader or of the bit writer.
 #[derive(Clone, Copy, Debug, PartialEq, Eq)]
@@ -29,15 +29,10 @@ impl TryFrom<u8> for Step {
     }
 }
 
-// What a success says, or the number of a refusal, by the number recorded: 0 is success.
-pub fn outcome<T: Drop>(number: u32, said: T) -> Result<T, u32> {
-    if number == 0 { Ok(said) } else { Err(number) }
-}
-
-// The place behind a step, or the number of its refusal, and a value.
+// The place behind a step, or its refusal, and a value.
 #[derive(Clone, Copy)]
 pub struct Expected {
-    pub next: Result<usize, u32>,
+    pub next: Result<usize, Refusal>,
     pub value: u32,
 }
 
@@ -49,12 +44,12 @@ impl Expected {
 
     // Whether a step with the value says what is expected.
     pub fn is_value(self, answer: Result<u32, Refusal>) -> bool {
-        is_answer(answer, self.next.map(|_| self.value))
+        answer == self.next.map(|_| self.value)
     }
 
     // Whether a step without a value does.
     pub fn is_done(self, answer: Result<(), Refusal>) -> bool {
-        is_answer(answer, self.next.map(|_| ()))
+        answer == self.next.map(|_| ())
     }
 }
 
@@ -66,23 +61,20 @@ pub struct Front {
     pub expected: Expected,
 }
 
-// Taken from a case's content.
-impl<'a> From<&mut Content<'a>> for Front {
-    fn from(content: &mut Content<'a>) -> Front {
+// Taken from a case's content, where its number is success or that of a refusal.
+impl<'a> TryFrom<&mut Content<'a>> for Front {
+    type Error = NoRefusal;
+
+    fn try_from(content: &mut Content<'a>) -> Result<Front, NoRefusal> {
         let at = content.eight_bytes();
         let width = content.four_bytes();
         let number = u32::from(content.byte());
         let value = content.four_bytes();
-        let next = outcome(number, content.eight_bytes());
-        Front {
+        let next = outcome(number, content.eight_bytes())?;
+        Ok(Front {
             at,
             width,
             expected: Expected { next, value },
-        }
+        })
     }
-}
-
-// Whether an answer is the outcome recorded.
-pub fn is_answer<T: PartialEq + Drop>(answer: Result<T, Refusal>, outcome: Result<T, u32>) -> bool {
-    answer.map_err(Refusal::number) == outcome
 }

@@ -22,17 +22,21 @@ pub fn is_step(step: Step, bytes: &[u8], front: Front) -> bool {
 }
 
 pub fn is_step_same(step: Step, mut content: Content) -> bool {
-    let front = Front::from(&mut content);
-    is_step(step, content.rest, front)
+    Front::try_from(&mut content).is_ok_and(|front| is_step(step, content.rest, front))
 }
 
 // The bit at a place, the field there, byte_aligned() and more_rbsp_data(). A yes has the value 1, a no the value 0.
 pub fn is_question_same(question: Question, mut content: Content) -> bool {
-    let Front {
-        at,
-        width,
-        expected,
-    } = Front::from(&mut content);
+    let Ok(
+        Front {
+            at,
+            width,
+            expected,
+        },
+    ) = Front::try_from(&mut content)
+    else {
+        return false;
+    };
     let bytes = content.rest;
     let reader = BitReader { bytes, bit_pos: at };
     match question {

@@ -1,8 +1,7 @@
 // Cases of stuffing. Adding and removing: number, bytes written, length of the input, the input, the output afterwards.
 // Measuring: the length, the input.
-use crate::expected::{is_answer, outcome};
 use refusals::Refusal;
-use replay_numbers::{Content, fill_pattern};
+use replay_numbers::{Content, fill_pattern, outcome};
 
 // Replays adding or removing on an output of just the length recorded.
 pub(crate) fn is_same<F: FnOnce(&[u8], &mut [u8]) -> Result<usize, Refusal>>(
@@ -20,7 +19,7 @@ pub(crate) fn is_same<F: FnOnce(&[u8], &mut [u8]) -> Result<usize, Refusal>>(
         return false;
     };
     fill_pattern(out);
-    is_answer(stuffed(input, out), outcome(number, written)) && check::same(out, content.rest)
+    outcome(number, written) == Ok(stuffed(input, out)) && &*out == content.rest
 }
 
 // Replays measuring.

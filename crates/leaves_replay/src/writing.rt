@@ -23,6 +23,8 @@ pub fn is_step(step: Step, out: &mut [u8], front: Front) -> bool {
 }
 
 pub fn is_same(step: Step, mut content: Content, out: &mut [u8]) -> bool {
-    let front = Front::from(&mut content);
+    let Ok(front) = Front::try_from(&mut content) else {
+        return false;
+    };
     is_buffer_same(content.rest, out, |out| is_step(step, out, front))
 }

@@ -1,11 +1,8 @@
 // A case: eight numbers, the bytes of the unit that are stored, and the numbers of the record that are stored. Of both,
 // one element is stored once and is there so many times more.
-use refusals::Refusal;
-use replay_numbers::{Content, fill_pattern, pattern};
+use refusals::{NoRefusal, Refusal};
+use replay_numbers::{Content, fill_pattern, outcome, pattern};
 use vps_writer::write_vps_nal;
-
-// What the writer says: the unit's length, or the refusal's number.
-type Answer = Result<usize, u32>;
 
 // An element that is there again: its index, and how many times more.
 #[derive(Clone, Copy)]
@@ -27,7 +24,8 @@ impl<'a> From<&mut Content<'a>> for Again {
 // A case, as it is recorded.
 #[derive(Clone, Copy)]
 struct Case<'a> {
-    answer: Answer,
+    // what the writer says: the unit's length, or its refusal
+    answer: Result<usize, Refusal>,
     // the lengths of the output and of the record
     room: usize,
     length: usize,
@@ -38,7 +36,7 @@ struct Case<'a> {
 }
 
 impl<'a> Case<'a> {
-    fn read(content: &'a [u8]) -> Case<'a> {
+    fn read(content: &'a [u8]) -> Result<Case<'a>, NoRefusal> {
         let mut content = Content { rest: content };
         let number = content.number();
         let room = content.number() as usize;
@@ -46,18 +44,15 @@ impl<'a> Case<'a> {
         let number_again = Again::from(&mut content);
         let byte_again = Again::from(&mut content);
         let bytes = content.number() as usize;
-        Case {
-            answer: match number {
-                0 => Ok(bytes.saturating_add(byte_again.more)),
-                _ => Err(number),
-            },
+        Ok(Case {
+            answer: outcome(number, bytes.saturating_add(byte_again.more))?,
             room,
             length,
             number_again,
             byte_again,
             unit: content.bytes(bytes),
             numbers: content,
-        }
+        })
     }
 
     // Puts the numbers into a record.
@@ -86,10 +81,9 @@ impl<'a> Case<'a> {
     // Whether an output begins with the unit, or with nothing where the record is refused, and is as before behind it.
     fn is_output_same(&self, output: &[u8]) -> bool {
         match self.answer {
-            Ok(length) => match self.behind_unit(output) {
-                Some(behind) => is_untouched(behind, length),
-                None => false,
-            },
+            Ok(length) => self
+                .behind_unit(output)
+                .is_some_and(|behind| is_untouched(behind, length)),
             Err(_) => is_untouched(output, 0),
         }
     }
@@ -98,8 +92,7 @@ impl<'a> Case<'a> {
     fn is_call_same(&self, record: &mut [u32], output: &mut [u8]) -> bool {
         self.put_record(record);
         fill_pattern(output);
-        let answer = write_vps_nal(record, output).map_err(Refusal::number);
-        answer == self.answer && self.is_output_same(output)
+        write_vps_nal(record, output) == self.answer && self.is_output_same(output)
     }
 }
 
@@ -110,7 +103,9 @@ fn is_untouched(part: &[u8], from: usize) -> bool {
 
 // Replays a case on the beginnings of two buffers, of just the lengths recorded.
 pub fn is_same(content: &[u8], record: &mut [u32], output: &mut [u8]) -> bool {
-    let case = Case::read(content);
+    let Ok(case) = Case::read(content) else {
+        return false;
+    };
     if record.len() < case.length || output.len() < case.room {
         return false;
     }

@@ -1,6 +1,9 @@
 -- Numbers of several bytes, the highest byte first; past the end each byte is 0.
-use Rattle.std.specs.Prelude.{ℕ, zero, suc, ◌+◌, ◌*◌, ◌<◌, ◌≤◌, ◌≡◌, refl, cond, List, ltb, get_or, drop, length}
+use Rattle.std.specs.Prelude.{ℕ, zero, suc, ◌+◌, ◌*◌, ◌<◌, ◌≤◌, ◌≡◌, ◌≢◌, Result, Ok, Err, refl, cond, List, ltb, get_or, drop, length}
 use Rattle.std.proofs.Common.{lt-ltb, le-ltb, add-one}
+use Rattle.refusals.specs.declared.refusal.Refusal.{Refusal}
+use Rattle.refusals.specs.declared.refusal.NoRefusal.{NoRefusal}
+use Rattle.refusals.specs.Refusals.{number_of}
 
 abbrev pub two : List ℕ → ℕ
 two x = get_or x 0 0 * 256 + get_or x 1 0
@@ -46,3 +49,9 @@ behind_none x = refl
 pub behind_more : (x rest : List ℕ) (n : ℕ) → rest ≡ behind_numbers x n → drop (place_behind rest 0) rest ≡ behind_numbers x (n + 1)
 unfolding behind_numbers
 behind_more x rest n e = rw (add-one n, e) refl
+
+-- The outcome of a call by the number recorded: 0 is a success, any other the refusal of that number, or none has it.
+abbrev pub Recorded : {T : Type 0} → ℕ → T → Result (Result T Refusal) NoRefusal → Type 0
+Recorded number said (Ok (Ok said')) = (number ≡ 0) × (said' ≡ said)
+Recorded number said (Ok (Err refusal)) = number_of refusal ≡ number
+Recorded number said (Err e) = (1 ≤ number) × ((refusal : Refusal) → number_of refusal ≢ number)

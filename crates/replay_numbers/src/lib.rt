@@ -2,7 +2,10 @@
 #![tactic(auto)]
 
 ghost use Rattle.std.specs.Prelude.{ℕ, ◌≡◌, ◌-◌, ◌%◌, ◌<◌, get_or, take, drop, length, HoldsAt};
-ghost use Rattle.replay_numbers.specs.Numbers.{two, four, eight, number_at, place_behind, behind_numbers};
+ghost use Rattle.refusals.specs.Refusals.{Decodes};
+ghost use Rattle.replay_numbers.specs.Numbers.{two, four, eight, number_at, place_behind, behind_numbers, Recorded};
+
+use refusals::{NoRefusal, Refusal};
 
 // What is left of a content: bytes and numbers are taken from its front; past the end each byte is 0.
 #[derive(Clone, Copy)]
@@ -88,6 +91,16 @@ impl<'a> Content<'a> {
             *number = self.number();
         }
     }
+}
+
+// The outcome of a call by the number recorded: what a success says at 0, otherwise the refusal of that number.
+pub fn outcome<T: Drop>(number: u32, said: T) -> Result<Result<T, Refusal>, NoRefusal>
+    ensures { Recorded number said result }
+{
+    if number == 0 {
+        return Ok(Ok(said));
+    }
+    Ok(Err(Refusal::try_from(number)?))
 }
 
 // What an output holds beforehand at an index.

@@ -40,12 +40,7 @@ impl Found {
 
 // Whether so many parts are as recorded, and nothing is behind them.
 fn are_parts(mut content: Content, count: u32, record: &[u32]) -> bool {
-    for _ in 0..count {
-        if !Found::from(&mut content).is_in(record) {
-            return false;
-        }
-    }
-    content.rest.is_empty()
+    (0..count).all(|_| Found::from(&mut content).is_in(record)) && content.rest.is_empty()
 }
 
 // Replays a case on a record of just the length recorded.

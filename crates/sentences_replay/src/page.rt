@@ -1,16 +1,9 @@
 // The rows of a page's table: a bar, a blank, the number, a blank, a bar, a blank, the sentence, a blank, a bar.
-ghost use Rattle.std.specs.Prelude.{◌≤◌, MatchOption, ⊤};
-
 use lists::behind;
 
 // What a byte stands for as a digit.
-fn digit_of(byte: u8) -> Option<u32>
-    ensures { MatchOption result ⊤ (λ digit. digit ≤ 9) }
-{
-    match byte {
-        b'0'..=b'9' => Some((byte - b'0') as u32),
-        _ => None,
-    }
+fn digit_of(byte: u8) -> Option<u32> {
+    char::from(byte).to_digit(10)
 }
 
 // Whether a row of the table stands here.
@@ -30,19 +23,14 @@ fn behind_number(line: &[u8]) -> &[u8] {
     }
 }
 
-// The number of a row; the first digits where there are many.
+// The number of a row; the greatest where there are too many digits.
 pub fn number(line: &[u8]) -> u32 {
-    let mut value = 0;
-    for byte in behind(line, 2) {
-        let Some(digit) = digit_of(*byte) else {
-            return value;
-        };
-        if 1000 < value {
-            return value;
-        }
-        value = value * 10 + digit;
-    }
-    value
+    behind(line, 2)
+        .iter()
+        .map_while(|byte| digit_of(*byte))
+        .fold(0u32, |value, digit| {
+            value.saturating_mul(10).saturating_add(digit)
+        })
 }
 
 // The bytes before a blank and a bar.

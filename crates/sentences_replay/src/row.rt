@@ -12,10 +12,9 @@ const BEFORE: u8 = 255;
 
 // Whether an output begins with some bytes and is otherwise as before.
 fn holds(output: &[u8], bytes: &[u8]) -> bool {
-    match output.strip_prefix(bytes) {
-        Some(rest) => rest.iter().all(|byte| *byte == BEFORE),
-        None => false,
-    }
+    output
+        .strip_prefix(bytes)
+        .is_some_and(|rest| rest.iter().all(|byte| *byte == BEFORE))
 }
 
 // Whether a sentence is stored where there is room, and refused with nothing changed where there is none.
@@ -30,23 +29,12 @@ fn is_stored(number: u32, bytes: &[u8], output: &mut [u8]) -> bool {
 
 // In outputs of 0 to 64 bytes.
 fn is_stored_always(number: u32, bytes: &[u8]) -> bool {
-    for room in 0..=ROOM {
-        let mut output = [BEFORE; ROOM];
-        if !is_stored(number, bytes, &mut output[..room]) {
-            return false;
-        }
-    }
-    true
+    (0..=ROOM).all(|room| is_stored(number, bytes, &mut [BEFORE; ROOM][..room]))
 }
 
 // Whether no proper beginning gives a number, the empty one included.
 fn no_beginning(bytes: &[u8]) -> bool {
-    for n in 0..bytes.len() {
-        if sentence_number(&bytes[..n]).is_some() {
-            return false;
-        }
-    }
-    true
+    (0..bytes.len()).all(|n| sentence_number(&bytes[..n]).is_none())
 }
 
 // Whether no other byte at a place gives a number. Afterwards the bytes are as before.
@@ -67,12 +55,7 @@ fn no_other_byte(bytes: &mut [u8], at: usize) -> bool
 }
 
 fn no_change(bytes: &mut [u8]) -> bool {
-    for at in 0..bytes.len() {
-        if !no_other_byte(bytes, at) {
-            return false;
-        }
-    }
-    true
+    (0..bytes.len()).all(|at| no_other_byte(bytes, at))
 }
 
 // Whether neither another byte anywhere nor a blank behind gives a number.
