@@ -1,5 +1,5 @@
 // The rows of a page's table: a bar, a blank, the number, a blank, a bar, a blank, the sentence, a blank, a bar.
-use lists::behind;
+use lists::{behind, front};
 
 // What a byte stands for as a digit.
 fn digit_of(byte: u8) -> Option<u32> {
@@ -36,7 +36,7 @@ pub fn number(line: &[u8]) -> u32 {
 // The bytes before a blank and a bar.
 fn cell(bytes: &[u8]) -> &[u8] {
     match behind(bytes, 1).iter().position(|byte| *byte == b'|') {
-        Some(end) => bytes.get(..end).unwrap_or(bytes),
+        Some(end) => front(bytes, end),
         None => bytes,
     }
 }

@@ -1,7 +1,7 @@
 // A case: number, length, bits used, lengths of the work buffer and of the record, how often the last byte is there
 // again, the unit, the RBSP, and the record's numbers. The RBSP and the numbers are there where they are stored.
 use refusals::{NoRefusal, Refusal};
-use replay_numbers::{Content, fill_pattern};
+use replay_numbers::{Content, fill_pattern, outcome};
 use vps_reader::{NotParsed, Parsed, parse_vps};
 
 // The longest unit and work buffer, and the longest record.
@@ -14,10 +14,8 @@ fn read_answer(content: &mut Content) -> Result<Result<Parsed, NotParsed>, NoRef
     let number = u32::from(content.byte());
     let numbers = content.four_bytes() as usize;
     let bits_used = content.four_bytes() as usize;
-    if number == 0 {
-        return Ok(Ok(Parsed { numbers, bits_used }));
-    }
-    Ok(Err(match Refusal::try_from(number)? {
+    let answer = outcome(number, Parsed { numbers, bits_used })?;
+    Ok(answer.map_err(|refusal| match refusal {
         Refusal::RecordTooShort => NotParsed::RecordTooShort(numbers),
         refusal => NotParsed::Refused(refusal),
     }))
