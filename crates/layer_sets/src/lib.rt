@@ -64,7 +64,8 @@ pub fn cover(closed: &[u64], mask: u64) -> u64
 }
 
 // Stores the closed mask of layer i, which refers directly to the layers of `direct`, where there is such a place.
-// As it is (6): i is a layer's number; `lists::store` would test the place once more, behind a slice of the masks before it.
+// As it is (2): `lists::store` would test the place once more, behind a slice of the masks before it.
+// As it is (6): i is a layer's number: the place of its own mask, and how many masks stand before it.
 pub fn close(closed: &mut [u64], direct: u64, i: usize)
     ensures { closed.new ≡ set closed.old i (mask_of 64 (with_reached i (bit_at closed.old) (bit_of direct))) }
 {

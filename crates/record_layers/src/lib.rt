@@ -20,7 +20,7 @@ struct Entry<'a> {
 impl Entry<'_> {
     // The layers below whose flag is 1, the first of each of i pairs.
     // As it is (2): `vps_layers::flags` takes a step for each flag, which may be refused; by it, this loop over a record's numbers would have a refusal that never comes.
-    // As it is (3): `step_by(2)` and `chunks(2)` end where the lent record does, before the i-th flag; by its index each flag has a number.
+    // As it is (3): `step_by(2)` and `chunks(2)` end where the lent record does; that the flags behind its end, which are 0, add no layer, would want a law of its own.
     fn flags_mask(&self) -> u64
         ensures { result ≡ mask_of 64 (flagged (firsts self.now.i (drop 3 self.now.numbers.now))) }
     {

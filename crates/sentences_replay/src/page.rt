@@ -8,10 +8,7 @@ fn digit_of(byte: u8) -> Option<u32> {
 
 // Whether a row of the table stands here.
 pub fn is_row(line: &[u8]) -> bool {
-    match line {
-        [b'|', _, b'0'..=b'9', ..] => true,
-        _ => false,
-    }
+    matches!(line, [b'|', _, b'0'..=b'9', ..])
 }
 
 // What stands behind the number of a row.

@@ -113,6 +113,7 @@ fn read_bytes<'a>(content: &mut Content<'a>) -> &'a [u8] {
 }
 
 // Whether a buffer begins with what is put into so many of its numbers, and is as before behind them.
+// As it is (6): the length says how much of the buffer a call was to fill; all of it is compared, so a slice of as many won't do.
 fn is_begun<T: From<u8> + PartialEq + Drop, F: FnOnce(&mut [T])>(
     buffer: &[T],
     length: usize,

@@ -16,7 +16,7 @@ use table_steps::Steps;
 use vps_fields::Header;
 
 // What the schedules go by: the flags of general_timing_hrd_parameters() and its schedule count.
-// As it is (1): the flags stay numbers, as the definition's `Hrd` has them; as bools each clause would turn them back.
+// As it is (1): the flags stay numbers, as the definition's `Hrd` has them, and as `when`, `is_hrd_present` and a schedule take them.
 #[derive(Clone, Copy)]
 pub struct Hrd {
     pub nal: u32,
