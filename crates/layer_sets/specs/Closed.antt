@@ -5,10 +5,10 @@ use Rattle.std.proofs.lemmas.List.{get_or_past}
 use Rattle.std.proofs.Math.Numerals.{add-one}
 use Rattle.std.proofs.Math.Path.{sym, ap}
 use Rattle.std.proofs.Math.Bool.{or_assoc, or-false, and-false}
-use Rattle.vps_definition.specs.OutputLayerSets.{any_below, digit, count_below, with_reached, reaches, included, Reaches}
+use Rattle.vps_definition.specs.OutputLayerSets.{any_below, digit, count_below, with_reached, reaches, included, Reaches, mask_of}
 use Rattle.vps_definition.specs.OutputLayerSets.Reaches.{direct, through}
 use Rattle.vps_laws.specs.OutputLayerSets.{with_ext, reaches_law, reaches_ext, included_sound, count_ext, count_none}
-use Rattle.layer_sets.specs.Masks.{mask_of, bit_of, bit_at}
+use Rattle.layer_sets.specs.Masks.{bit_of, bit_at}
 use Rattle.layer_sets.specs.MaskLaws.{mask_ext, mask_bit, mask_of_bits, bit_empty}
 
 -- the masks of the layers below n

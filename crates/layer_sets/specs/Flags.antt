@@ -1,12 +1,13 @@
 -- Flags of layers, held as the mask of those that are 1.
-use Rattle.std.specs.Prelude.{ℕ, zero, suc, ◌+◌, ◌<◌, ◌≤◌, ◌≡◌, refl, List, [], ◌∷◌, ◌++◌, Bool, true, not, ◌&&◌, ◌||◌, ltb, eqb, length}
-use Rattle.std.proofs.Common.{add-zero, arith, sym, ap, ◌∙◌, subst, lt-ltb, eq-eqb, ne_eqb}
+use Rattle.std.specs.Prelude.{ℕ, zero, suc, ◌+◌, ◌<◌, ◌≤◌, ◌≡◌, refl, List, [], ◌∷◌, ◌++◌, Bool, true, not, ◌&&◌, ◌||◌, ltb, eqb, length, get_or, take}
+use Rattle.std.proofs.Common.{add-zero, arith, sym, ap, ◌∙◌, subst, lt-ltb, eq-eqb, ne_eqb, length-take-le}
+use Rattle.std.proofs.lemmas.List.{take_more}
 use Rattle.std.proofs.Math.Bool.{or-true, or-false, and-true, and-false}
 use Rattle.std.proofs.lemmas.Bool.{false≢true}
 use Rattle.std.proofs.Math.Dec.{eqb-zero-suc, eqb-suc-zero, eqb-suc-suc}
 use Rattle.vps_definition.specs.Words.{sum}
-use Rattle.vps_definition.specs.OutputLayerSets.{flagged}
-use Rattle.layer_sets.specs.Masks.{mask_of, bit_of}
+use Rattle.vps_definition.specs.OutputLayerSets.{flagged, mask_of}
+use Rattle.layer_sets.specs.Masks.{bit_of}
 use Rattle.layer_sets.specs.MaskLaws.{mask_ext, mask_bit, mask_none, bit_empty}
 
 -- a mask has the layers whose flag is 1, and none is 1 where it is empty
@@ -41,6 +42,13 @@ bits_turn flags mask v e =
     mask_ext 64 _ _ (λ k l.
     ap (λ (b : Bool). b || (eqb v 1 && eqb (length flags) k)) (ap (λ (x : ℕ). bit_of x k) e ∙ mask_bit 64 _ k l)
     ∙ flagged_more flags v k)
+
+-- behind turn j of a list's flags
+pub flags_turn : (flags : List ℕ) (j mask : ℕ) {v mask' : ℕ} → j < length flags → mask ≡ mask_of 64 (flagged (take j flags)) → v ≡ get_or flags j 0 → mask' ≡ with_flag mask v j
+    → mask' ≡ mask_of 64 (flagged (take (j + 1) flags))
+flags_turn flags j mask {v} l e f g =
+    g ∙ ap (with_flag mask v) (sym (length-take-le j flags (omega (arith, l)))) ∙ bits_turn (take j flags) mask v e
+    ∙ ap (λ (w : ℕ). mask_of 64 (flagged (take j flags ++ (w ∷ [])))) f ∙ ap (λ (x : List ℕ). mask_of 64 (flagged x)) (sym (take_more flags j 0 l))
 
 sum_more : (flags : List ℕ) (v : ℕ) → sum (flags ++ (v ∷ [])) ≡ sum flags + v
 unfolding sum

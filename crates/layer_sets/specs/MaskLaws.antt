@@ -1,14 +1,15 @@
 -- Masks as sets of layers: or is union, one shifted is a single layer, ones are counted.
-use Rattle.std.specs.Prelude.{ℕ, zero, suc, ◌+◌, ◌*◌, ◌/◌, ◌%◌, ◌^◌, ◌<◌, ◌≤◌, max, ◌≡◌, refl, Bool, true, false, ◌||◌, eqb}
-use Rattle.std.proofs.Common.{suc-le-suc, pow-suc, mod-lt, div-add-mod', div-one, add-zero, one-mul, div-lt_iff_lt-mul, zero-lt-suc, le_of_suc-le-suc, lt_of_lt_of_le, arith, sym, ap, ap₂, ◌∙◌, ne_eqb, lit<, shr-shr, shl_exact, pow_mono}
+use Rattle.std.specs.Prelude.{ℕ, zero, suc, ◌+◌, ◌*◌, ◌-◌, ◌/◌, ◌%◌, ◌^◌, ◌<◌, ◌≤◌, max, ◌≡◌, refl, Bool, true, false, ◌||◌, ltb, leb, eqb}
+use Rattle.std.proofs.Common.{suc-le-suc, pow-suc, mod-lt, div-add-mod', div-one, add-zero, one-mul, div-lt_iff_lt-mul, zero-lt-suc, le_of_suc-le-suc, lt_of_lt_of_le, arith, sym, ap, ap₂, ◌∙◌, ne_eqb, lit<, shr-shr, shl_exact, pow_mono, eqb-true, ltb-true, ltb-false, le-leb}
 use Rattle.std.proofs.Math.Nat.{div-eq_of_lt, zero-div}
 use Rattle.std.proofs.Math.Bool.{or-false}
 use Rattle.std.proofs.Math.Dec.{eqb-zero-suc, eqb-suc-zero, eqb-suc-suc}
 use Rattle.std.proofs.Math.Arith.{digits_div, digits_mod, lt-one}
 use Rattle.std.specs.Int.Bits.{bit_or, or_step}
 use Rattle.std.specs.Int.Count.{ones, ones_step}
-use Rattle.vps_definition.specs.OutputLayerSets.{digit, count_below}
-use Rattle.layer_sets.specs.Masks.{mask_of, bit_of}
+use Rattle.lists.specs.Table.{every_below, every_below_lem}
+use Rattle.vps_definition.specs.OutputLayerSets.{digit, count_below, mask_of}
+use Rattle.layer_sets.specs.Masks.{bit_of}
 
 digit_lt : (b : Bool) → digit b < 2
 digit_lt true = omega arith
@@ -121,6 +122,31 @@ set_none m j hm hj =
 pub bit_empty : (j : ℕ) → bit_of 0 j ≡ false
 unfolding bit_of
 bit_empty j = ap (λ (x : ℕ). eqb (x % 2) 1) (zero-div (2 ^ j))
+
+-- so with one layer more it has that one alone
+pub mask_only : (i : ℕ) → mask_of 64 (λ k. bit_of 0 k || eqb i k) ≡ mask_of 64 (eqb i)
+mask_only i = mask_ext 64 _ _ (λ k l. ap (λ (b : Bool). b || eqb i k) (bit_empty k))
+
+-- ── The first layers ──────────────────────────────────────────────────
+-- all bits, shifted down by those that are too many: computed for each layer
+first_test : ℕ → Bool
+first_test i = eqb (18446744073709551615 / 2 ^ (63 - i)) (mask_of 64 (λ j. leb j i))
+
+first_tested : every_below first_test 64 ≡ true
+unfolding first_test mask_of
+first_tested = refl
+
+pub mask_first : (i : ℕ) → 18446744073709551615 / 2 ^ (63 - i) ≡ mask_of 64 (λ j. leb j i)
+unfolding first_test
+mask_first i = go (ltb i 64) refl
+  where
+    go : (b : Bool) → ltb i 64 ≡ b → 18446744073709551615 / 2 ^ (63 - i) ≡ mask_of 64 (λ j. leb j i)
+    go true e = eqb-true _ _ (every_below_lem first_test 64 first_tested i (ltb-true i 64 e))
+    go false e =
+        let far : 64 ≤ i = ltb-false i 64 e in
+        let none : 63 - i ≡ 0 = omega (arith, far) in
+        ap (λ (k : ℕ). 18446744073709551615 / 2 ^ k) none ∙ eqb-true _ _ (every_below_lem first_test 64 first_tested 63 (lit< tt))
+        ∙ mask_ext 64 _ _ (λ j l. le-leb j 63 (omega (arith, l)) ∙ sym (le-leb j i (omega (arith, l, far))))
 
 -- `a | b`
 pub or_bits : (a b : ℕ) → a < 2 ^ 64 → b < 2 ^ 64 → bit_or a b ≡ mask_of 64 (λ k. bit_of a k || bit_of b k)

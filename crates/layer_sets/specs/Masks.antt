@@ -1,11 +1,5 @@
--- A set of layers as a number: its bit j says whether layer j is in the set.
-use Rattle.std.specs.Prelude.{ℕ, zero, suc, ◌+◌, ◌*◌, ◌/◌, ◌%◌, ◌^◌, List, Bool, eqb, get_or}
-use Rattle.vps_definition.specs.OutputLayerSets.{digit}
-
--- the number whose bit j, for j below n, says whether p holds of j
-unfoldable pub mask_of : ℕ → (ℕ → Bool) → ℕ
-mask_of zero p = 0
-mask_of (suc n) p = mask_of n (λ j. p (suc j)) * 2 + digit (p 0)
+-- Which layers a mask has: its bit j says whether layer j is in the set. `mask_of`, the mask of a property, is the definition's.
+use Rattle.std.specs.Prelude.{ℕ, ◌/◌, ◌%◌, ◌^◌, List, Bool, eqb, get_or}
 
 -- bit j of a mask
 unfoldable pub bit_of : ℕ → ℕ → Bool

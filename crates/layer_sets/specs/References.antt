@@ -3,9 +3,9 @@ use Rattle.std.specs.Prelude.{ℕ, zero, suc, ◌+◌, ◌<◌, ◌≤◌, ◌�
 use Rattle.std.proofs.Common.{arith, sym, ap, ◌∙◌, subst, length-append}
 use Rattle.std.proofs.Math.ListN.{get_or-append}
 use Rattle.std.proofs.Math.Seq.{get_or-append_seam}
-use Rattle.vps_definition.specs.OutputLayerSets.{with_reached, flagged, refers_by}
+use Rattle.vps_definition.specs.OutputLayerSets.{with_reached, flagged, refers_by, mask_of}
 use Rattle.vps_definition.specs.Vps.{Layers}
-use Rattle.layer_sets.specs.Masks.{mask_of, bit_of, bit_at}
+use Rattle.layer_sets.specs.Masks.{bit_of, bit_at}
 use Rattle.layer_sets.specs.MaskLaws.{mask_bit}
 use Rattle.layer_sets.specs.Closed.{Closed, closed_as, closed_more}
 use Rattle.layer_sets.specs.Flags.{Held, flagged_short}

@@ -3,9 +3,9 @@ use Rattle.std.specs.Prelude.{ℕ, zero, suc, ◌+◌, ◌≤◌, ◌≡◌, ref
 use Rattle.std.proofs.Common.{arith, add_comm, add_assoc, add-one, sym, ap, ap₂, ◌∙◌, length-append}
 use Rattle.std.proofs.Math.ListN.{get_or-append}
 use Rattle.std.proofs.Math.Seq.{get_or-append_seam}
-use Rattle.vps_definition.specs.OutputLayerSets.{digit, count_below, with_reached, flagged}
+use Rattle.vps_definition.specs.OutputLayerSets.{digit, count_below, with_reached, flagged, mask_of}
 use Rattle.vps_laws.specs.OutputLayerSets.{count_ext}
-use Rattle.layer_sets.specs.Masks.{mask_of, bit_of, bit_at}
+use Rattle.layer_sets.specs.Masks.{bit_of, bit_at}
 use Rattle.layer_sets.specs.Flags.{Held}
 
 -- the layers of a mask, with what they reach by the closed masks, are more than one

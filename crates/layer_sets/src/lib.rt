@@ -1,16 +1,16 @@
 // Sets of layers as 64-bit masks, one bit for each layer: single layers, unions, and what layers reach.
 #![tactic(auto)]
 
-ghost use Rattle.std.specs.Prelude.{◌≡◌, ◌||◌, set, length, ltb, eqb};
-ghost use Rattle.vps_definition.specs.OutputLayerSets.{count_below, with_reached};
-ghost use Rattle.layer_sets.specs.Masks.{mask_of, bit_of, bit_at};
+ghost use Rattle.std.specs.Prelude.{◌≡◌, ◌||◌, set, length, ltb, leb, eqb};
+ghost use Rattle.vps_definition.specs.OutputLayerSets.{count_below, with_reached, flagged, mask_of};
+ghost use Rattle.layer_sets.specs.Masks.{bit_of, bit_at};
 ghost use Rattle.layer_sets.specs.Flags.{with_flag};
 
 use record_parts::Record;
 
 // Whether layer j is in the mask; no mask has a layer from 64 on.
 // As it is (5): a mask is one number with nothing beside it; were it a struct, lent masks would be a list of structs, and the laws of closed masks would go by a map to their numbers.
-fn has(mask: u64, j: usize) -> bool
+pub fn has(mask: u64, j: usize) -> bool
     ensures { result ≡ bit_of mask j }
 {
     j < Record::MOST_LAYERS && (mask >> j) % 2 == 1
@@ -26,12 +26,37 @@ fn with(mask: u64, j: usize) -> u64
     mask
 }
 
+// Layer i alone, where it is below 64.
+pub fn only(i: usize) -> u64
+    ensures { result ≡ mask_of 64 (eqb i) }
+{
+    with(0, i)
+}
+
+// Layers 0 to i.
+pub fn up_to(i: usize) -> u64
+    ensures { result ≡ mask_of 64 (λ j. leb j i) }
+{
+    u64::MAX >> (Record::MOST_LAYERS - 1).saturating_sub(i)
+}
+
 // A mask with layer j where its flag is 1.
 pub fn with_flag(mask: u64, v: u32, j: usize) -> u64
     ensures { result ≡ with_flag mask v j }
 {
     if v == 1 {
         return with(mask, j);
+    }
+    mask
+}
+
+// The layers whose flag is 1.
+pub fn of_flags(flags: &[u32]) -> u64
+    ensures { result ≡ mask_of 64 (flagged flags.now) }
+{
+    let mut mask = 0;
+    for (j, v) in flags.iter().enumerate() {
+        mask = with_flag(mask, *v, j);
     }
     mask
 }
@@ -43,11 +68,18 @@ fn union(a: u64, b: u64) -> u64
     a | b
 }
 
+// How many layers the mask has.
+pub fn count(mask: u64) -> u32
+    ensures { result ≡ count_below 64 (bit_of mask) }
+{
+    mask.count_ones()
+}
+
 // Whether the mask has more than one layer.
 pub fn is_multi(mask: u64) -> bool
     ensures { result ≡ ltb 1 (count_below 64 (bit_of mask)) }
 {
-    mask.count_ones() > 1
+    count(mask) > 1
 }
 
 // The layers of the mask, and what they reach by the closed masks; a layer without one reaches nothing.

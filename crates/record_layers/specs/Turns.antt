@@ -6,9 +6,9 @@ use mathlib.Core.List.{List, [], ◌∷◌, ◌++◌, append_assoc}
 use Rattle.std.proofs.Math.Bool.{true, false}
 use Rattle.std.proofs.Math.Dec.{eqb}
 use Rattle.std.proofs.Math.ListN.{get_or-append}
-use Rattle.vps_definition.specs.OutputLayerSets.{with_reached, flagged, refers_by}
+use Rattle.vps_definition.specs.OutputLayerSets.{with_reached, flagged, refers_by, mask_of}
 use Rattle.vps_definition.specs.Layout.{firsts, flags_in, entry_length, flags_from}
-use Rattle.layer_sets.specs.Masks.{mask_of, bit_of, bit_at}
+use Rattle.layer_sets.specs.Masks.{bit_of, bit_at}
 use Rattle.layer_sets.specs.Flags.{with_flag, held_none, bits_turn}
 use Rattle.layer_sets.specs.Closed.{Closed, closed_as}
 use Rattle.layer_sets.specs.References.{Referred, referred_none, referred_with}

@@ -2,9 +2,8 @@
 #![tactic(auto)]
 
 ghost use Rattle.std.specs.Prelude.{◌≡◌, ◌≤◌, eqb, get_or, drop};
-ghost use Rattle.vps_definition.specs.OutputLayerSets.{flagged};
+ghost use Rattle.vps_definition.specs.OutputLayerSets.{flagged, mask_of};
 ghost use Rattle.vps_definition.specs.Layout.{firsts, flags_in, entry_length, flags_from};
-ghost use Rattle.layer_sets.specs.Masks.{mask_of};
 ghost use Rattle.record_layers.specs.Turns.{Stored};
 
 use record_parts::Record;

@@ -1,5 +1,5 @@
 -- Output layer sets (H.266 clause 7.4.3.3): which layers refer to which, which layers a set includes, and how many sets have several.
-use Rattle.std.specs.Prelude.{ℕ, zero, suc, ◌+◌, ◌<◌, ◌≡◌, List, [], Bool, true, false, ◌&&◌, ◌||◌, ltb, leb, eqb, length, get_or}
+use Rattle.std.specs.Prelude.{ℕ, zero, suc, ◌+◌, ◌*◌, ◌<◌, ◌≡◌, List, [], Bool, true, false, ◌&&◌, ◌||◌, ltb, leb, eqb, length, get_or}
 
 -- ── Layers by number ──────────────────────────────────────────────────
 -- some k below n has the property
@@ -77,3 +77,13 @@ num_layers_in_ols n refs sets i = count_below n (in_set n refs sets i)
 -- NumMultiLayerOlss
 unfoldable pub num_multi_layer_olss : (n : ℕ) (refs : List (List ℕ)) → Sets → ℕ
 num_multi_layer_olss n refs sets = count_below (total_num_olss n sets) (λ i. ltb 1 (num_layers_in_ols n refs sets i))
+
+-- ── Masks ─────────────────────────────────────────────────────────────
+-- the number whose bit j, for j below n, says whether p holds of j
+unfoldable pub mask_of : ℕ → (ℕ → Bool) → ℕ
+mask_of zero p = 0
+mask_of (suc n) p = mask_of n (λ j. p (suc j)) * 2 + digit (p 0)
+
+-- the layers of set i, as a mask of 64 bits
+unfoldable pub set_mask : (n : ℕ) (refs : List (List ℕ)) → Sets → ℕ → ℕ
+set_mask n refs sets i = mask_of 64 (in_set n refs sets i)

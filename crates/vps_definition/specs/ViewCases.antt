@@ -1,8 +1,8 @@
--- Worked views of one record: three layers of which the third refers to the second and that to the first, and two timing entries of
--- two sublayers and one, each sublayer with two NAL and two VCL schedules.
+-- Worked views of two records. Both have three layers, of which the third refers to the second and that to the first. The first has
+-- two timing entries of two sublayers and one, each sublayer with two NAL and two VCL schedules; the second has rows of output layers.
 use Rattle.std.specs.Prelude.{ℕ, ◌≡◌, refl, List, [], ◌∷◌, true, false, get_or, take}
-use Rattle.vps_definition.specs.OutputLayerSets.{total_num_olss, num_multi_layer_olss}
-use Rattle.vps_definition.specs.OutputLayerSets.Sets.{up_to}
+use Rattle.vps_definition.specs.OutputLayerSets.{total_num_olss, num_multi_layer_olss, set_mask}
+use Rattle.vps_definition.specs.OutputLayerSets.Sets.{up_to, chosen}
 use Rattle.vps_definition.specs.Writing.{well_formed}
 use Rattle.vps_definition.specs.Layout.{from_section, set_count, multi_count, timing_count, timing_indices, extension_in}
 use Rattle.vps_definition.specs.Views.{refs_of, sets_of, layer_in_set, slot_of, bit_rate_scale, timing_entry, sublayer_count, sublayer_at, nal_schedule_at, vcl_schedule_at}
@@ -28,6 +28,11 @@ sets = refl
 pub layers : (layer_in_set example 1 0 ≡ true) × (layer_in_set example 1 1 ≡ true) × (layer_in_set example 1 2 ≡ false)
 unfolding opened example
 layers = (refl, refl, refl)
+
+-- as masks, layer 0 the lowest bit
+pub masks : (set_mask 3 (refs_of example) (sets_of example) 0 ≡ 1) × (set_mask 3 (refs_of example) (sets_of example) 1 ≡ 3) × (set_mask 3 (refs_of example) (sets_of example) 2 ≡ 7)
+unfolding opened example
+masks = (refl, refl, refl)
 
 pub counts : (total_num_olss 3 (sets_of example) ≡ set_count example) × (num_multi_layer_olss 3 (refs_of example) (sets_of example) ≡ multi_count example)
 unfolding opened example
@@ -61,3 +66,21 @@ indices = refl
 pub extension : (extension_in (record_u 1 (2 ∷ 1 ∷ 0 ∷ []) 40) ≡ 1 ∷ 0 ∷ []) × (extension_in example ≡ [])
 unfolding opened example record_u
 extension = (refl, refl)
+
+-- ── Rows ──────────────────────────────────────────────────────────────
+-- row 0 has layer 2 as output layer, row 1 layer 0
+pub rows_example : List ℕ
+rows_example = 3 ∷ 1 ∷ 1 ∷ 0 ∷ 0 ∷ 0 ∷ 2 ∷ 0 ∷ 0 ∷ 5 ∷ 1 ∷ 0 ∷ 6 ∷ 0 ∷ 0 ∷ 1 ∷ 2 ∷ 9 ∷ 0 ∷ 1 ∷ 0 ∷ 2 ∷ 1 ∷ 1 ∷ 2 ∷ 0 ∷ 0 ∷ 1 ∷ 1 ∷ 0 ∷ 0 ∷ 1 ∷ 1 ∷ 1 ∷ 1 ∷ 0 ∷ 51 ∷ 0 ∷ 1 ∷ 0 ∷ 0 ∷ 0 ∷ 0 ∷ 3 ∷ 0 ∷ 0 ∷ 0 ∷ 1 ∷ 1 ∷ 4 ∷ 2 ∷ 0 ∷ 1 ∷ 1920 ∷ 1080 ∷ 1 ∷ 2 ∷ 0 ∷ 0 ∷ 0 ∷ 9 ∷ 24 ∷ 31 ∷ 43 ∷ 47 ∷ 58 ∷ 59 ∷ 68 ∷ []
+
+pub rows_well_formed : well_formed rows_example ≡ true
+unfolding opened rows_example
+rows_well_formed = refl
+
+pub rows : sets_of rows_example ≡ chosen ((0 ∷ 0 ∷ 1 ∷ []) ∷ (1 ∷ 0 ∷ 0 ∷ []) ∷ [])
+unfolding opened rows_example
+rows = refl
+
+-- set 0 is layer 0; set 1 has layer 2, layer 1 to which that refers, and layer 0 two steps away; set 2 is layer 0 again
+pub row_masks : (set_mask 3 (refs_of rows_example) (sets_of rows_example) 0 ≡ 1) × (set_mask 3 (refs_of rows_example) (sets_of rows_example) 1 ≡ 7) × (set_mask 3 (refs_of rows_example) (sets_of rows_example) 2 ≡ 1)
+unfolding opened rows_example
+row_masks = (refl, refl, refl)

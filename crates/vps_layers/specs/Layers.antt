@@ -4,10 +4,10 @@ use Rattle.std.proofs.Common.{arith, ap, subst}
 use Rattle.refusals.specs.declared.refusal.Refusal.{Refusal}
 use Rattle.vps_definition.specs.Syntax.{Syntax}
 use Rattle.vps_definition.specs.Words.{loop}
-use Rattle.vps_definition.specs.OutputLayerSets.{with_reached, refers_by}
+use Rattle.vps_definition.specs.OutputLayerSets.{with_reached, refers_by, mask_of}
 use Rattle.vps_definition.specs.Vps as Vps
 use Rattle.vps_definition.specs.Vps.{Layers, layer, layers_section}
-use Rattle.layer_sets.specs.Masks.{mask_of, bit_of, bit_at}
+use Rattle.layer_sets.specs.Masks.{bit_of, bit_at}
 use Rattle.layer_sets.specs.Closed.{Closed}
 use Rattle.layer_sets.specs.Counted.{Known}
 use Rattle.layer_sets.specs.Flags.{Held}

@@ -4,9 +4,9 @@ use Rattle.std.proofs.Common.{arith, ap, ◌∙◌}
 use Rattle.refusals.specs.declared.refusal.Refusal.{Refusal}
 use Rattle.vps_definition.specs.Syntax.{Syntax}
 use Rattle.vps_definition.specs.Words.{u, loop}
-use Rattle.vps_definition.specs.OutputLayerSets.{digit, with_reached}
+use Rattle.vps_definition.specs.OutputLayerSets.{digit, with_reached, mask_of}
 use Rattle.vps_definition.specs.Vps.{output_flag, row}
-use Rattle.layer_sets.specs.Masks.{mask_of, bit_of, bit_at}
+use Rattle.layer_sets.specs.Masks.{bit_of, bit_at}
 use Rattle.layer_sets.specs.Closed.{cover_first}
 use Rattle.layer_sets.specs.Flags.{Held}
 use Rattle.layer_sets.specs.Rows.{several, RowsHeld, rows_none, rows_more}

@@ -1,6 +1,6 @@
 use Rattle.std.proofs.Common.{◌≡◌}
-use Rattle.vps_definition.specs.OutputLayerSets.{with_reached}
-use Rattle.layer_sets.specs.Masks.{mask_of, bit_of, bit_at}
+use Rattle.vps_definition.specs.OutputLayerSets.{with_reached, mask_of}
+use Rattle.layer_sets.specs.Masks.{bit_of, bit_at}
 use Rattle.layer_sets.proofs.cover.Given as goal
 
 abbrev pub invariant-loop-k : goal.invariant-loop-k

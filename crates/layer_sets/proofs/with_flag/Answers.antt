@@ -3,7 +3,8 @@ use mathlib.Core.Path.{sym, ap, ◌∙◌}
 use mathlib.Core.Bool.{Bool, ◌&&◌, ◌||◌, or-false}
 use borrow.Author.Tests.{eq-eqb, ne_eqb}
 use lib.Dec.{eqb}
-use Rattle.layer_sets.specs.Masks.{mask_of, bit_of}
+use Rattle.vps_definition.specs.OutputLayerSets.{mask_of}
+use Rattle.layer_sets.specs.Masks.{bit_of}
 use Rattle.layer_sets.specs.MaskLaws.{mask_ext, mask_of_bits}
 use borrow.Author.Rules.{rules}
 use Rattle.layer_sets.proofs.with_flag.Goals as goal

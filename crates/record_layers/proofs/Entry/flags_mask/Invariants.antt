@@ -1,7 +1,6 @@
 use Rattle.std.proofs.Common.{◌≡◌}
-use Rattle.vps_definition.specs.OutputLayerSets.{flagged}
+use Rattle.vps_definition.specs.OutputLayerSets.{flagged, mask_of}
 use Rattle.vps_definition.specs.Layout.{firsts}
-use Rattle.layer_sets.specs.Masks.{mask_of}
 use Rattle.record_layers.proofs.Entry.flags_mask.Given as goal
 
 abbrev pub invariant-loop-j : goal.invariant-loop-j
