@@ -1,5 +1,5 @@
-// The Rust as judge, and a second judge for extension bits: their answers in the numbers of 01, and makers of units,
-// records and lists.
+// The Rust as judge, and a second judge for extension bits and the layer page: their answers in the numbers of 01, and
+// makers of units, records and lists.
 pub mod broken;
 pub mod changed_records;
 pub mod definition_units;
@@ -7,6 +7,7 @@ pub mod draft;
 pub mod extension_rule;
 pub mod leaves;
 pub mod list;
+pub mod page;
 pub mod random;
 pub mod record;
 pub mod record_list;

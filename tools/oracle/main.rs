@@ -1,6 +1,7 @@
 // The judges' answers, by sub-command: each is a module of its own.
 use judge::{
-    changed_records, definition_units, leaves, record_list, records, samples, section_list, show, unit_list, units,
+    changed_records, definition_units, leaves, page, record_list, records, samples, section_list, show, unit_list,
+    units,
 };
 
 use std::io::Write;
@@ -21,6 +22,7 @@ oracle section-list                          the list that crates/sections_repla
 oracle section-list expected                 what it is to print
 oracle section-list set-aside                how many records are well formed, and not, by the second judge
 oracle show HEX                              the Rust's answer for a unit, and the second judge's where that counts
+oracle page HEX                              the second judge's layer page for an accepted unit, or the refusal's number
 oracle records                               what the Rust writes for records that are not well formed, and for some that are
 oracle units SEED COUNT MAXBYTES             a line a unit: bytes, and record with bits used, or refusal
 oracle units-summary SEED COUNT MAXBYTES     how many of those each refusal and each shape has
@@ -48,6 +50,10 @@ fn main() -> ExitCode {
         ["section-list", "set-aside"] => write_out(section_list::set_aside().as_bytes()),
         ["show", hex] => match show::unit_of(hex) {
             Some(unit) => write_out(show::answer(&unit).as_bytes()),
+            None => fail("not pairs of hexadecimal digits"),
+        },
+        ["page", hex] => match show::unit_of(hex) {
+            Some(unit) => write_out(&page::answer(&unit)),
             None => fail("not pairs of hexadecimal digits"),
         },
         ["records"] => write_out(records::answers().as_bytes()),

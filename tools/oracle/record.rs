@@ -243,7 +243,7 @@ impl Numbers<'_> {
 }
 
 // The Rust's structure of a list that has the layout. Nothing is checked but that its numbers have a place there.
-fn vps_of(record: &[u32]) -> Option<VvcVps> {
+pub fn vps_of(record: &[u32]) -> Option<VvcVps> {
     let mut r = Numbers { rest: record };
     let n = r.count()?;
     let mut v = VvcVps {

@@ -10,6 +10,7 @@ pub fn write(folder: &str) -> std::io::Result<String> {
     let samples = [
         ("one_layer.vps", unit(&vps_of(U))),
         ("three_layers.vps", three.clone()),
+        ("output_rows.vps", unit(&with_output_rows())),
         ("timing.vps", unit(&with_timing())),
         ("extension.vps", unit(&with_extension(vec![1, 0, 1, 1]))),
         ("extension_zero.vps", unit(&with_extension(vec![1, 0]))),
@@ -44,6 +45,20 @@ fn three_layers() -> VvcVps {
     set.vps_ols_dpb_chroma_format = 1;
     set.vps_ols_dpb_bitdepth_minus8 = 2;
     v.ols_dpbs = vec![set; 2];
+    v
+}
+
+// Mode 2: layer 1 on 0, layer 2 on 0, layer 3 on 2. Output layers are 3 alone, which reaches 2 and by it 0, then 1 and 2.
+fn with_output_rows() -> VvcVps {
+    let mut v = three_layers();
+    v.vps_ols_mode_idc = 2;
+    v.layers[2].vps_direct_ref_layer_flag = vec![1, 0];
+    let mut layer = v.layers[2].clone();
+    layer.vps_layer_id = 3;
+    layer.vps_direct_ref_layer_flag = vec![0, 0, 1];
+    layer.vps_max_tid_il_ref_pics_plus1 = vec![1, 1, 1];
+    v.layers.push(layer);
+    v.vps_ols_output_layer_flags = vec![vec![0, 0, 0, 1], vec![0, 1, 1, 0]];
     v
 }
 

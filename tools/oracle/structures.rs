@@ -109,20 +109,7 @@ impl Maker {
             _ if self.one_in(4) => 2 + self.random.below(63),
             _ => 2 + self.random.below(6),
         };
-        let sublayers = if self.one_in(3) { 0 } else { self.random.below(7) as u8 };
-        let mut v = VvcVps {
-            vps_video_parameter_set_id: self.byte(4),
-            vps_max_sublayers_minus1: sublayers,
-            vps_default_ptl_dpb_hrd_max_tid_flag: if layers > 1 && sublayers > 0 { self.flag() } else { 1 },
-            vps_all_independent_layers_flag: u8::from(!matches!(mode, Mode::Zero | Mode::One | Mode::Two)),
-            vps_each_layer_is_an_ols_flag: u8::from(matches!(mode, Mode::OneLayer | Mode::EachLayer)),
-            vps_ols_mode_idc: match mode {
-                Mode::Zero => 0,
-                Mode::One => 1,
-                _ => 2,
-            },
-            ..Default::default()
-        };
+        let mut v = self.begun(mode, layers);
         self.layers(&mut v, layers);
         if matches!(mode, Mode::Two | Mode::TwoInferred) {
             self.rows(&mut v);
@@ -137,6 +124,65 @@ impl Maker {
         }
         self.extension(&mut v);
         v
+    }
+
+    // With so many layers, and in mode 2 so many rows; without timing, so that the tables stay short. Layers are on few of
+    // those below, and rows have few output layers, so most sets have layers that are reached in two steps or more.
+    pub fn wide(&mut self, mode: Mode, layers: usize, rows: usize) -> VvcVps {
+        let mut v = self.begun(mode, layers);
+        self.layers(&mut v, layers);
+        let inferred = v.vps_max_sublayers_minus1 + 1;
+        v.layers.iter_mut().for_each(|l| self.few_references(l, inferred));
+        if matches!(mode, Mode::Two | Mode::TwoInferred) {
+            v.vps_ols_output_layer_flags = (0..rows).map(|_| self.few_outputs(layers)).collect();
+            // a VPS with buffers has a set of several layers
+            if sets(&v).1 == 0 {
+                v.vps_ols_output_layer_flags[rows - 1] = vec![1; layers];
+            }
+        }
+        let (total, multi) = sets(&v);
+        self.ptls(&mut v, total);
+        if v.vps_each_layer_is_an_ols_flag == 0 {
+            self.dpb(&mut v, multi);
+        }
+        self.extension(&mut v);
+        v
+    }
+
+    // The highest of the layers that are referred to stays, and now and then another.
+    fn few_references(&mut self, l: &mut VvcVpsLayer, inferred: u8) {
+        let highest = l.vps_direct_ref_layer_flag.iter().rposition(|&flag| flag == 1);
+        for i in 0..highest.unwrap_or(0) {
+            if !self.one_in(8) {
+                l.vps_direct_ref_layer_flag[i] = 0;
+                l.vps_max_tid_il_ref_pics_plus1[i] = inferred;
+            }
+        }
+    }
+
+    fn few_outputs(&mut self, layers: usize) -> Vec<u8> {
+        let mut row = vec![0; layers];
+        for _ in 0..1 + self.random.below(3) {
+            row[self.random.below(layers)] = 1;
+        }
+        row
+    }
+
+    fn begun(&mut self, mode: Mode, layers: usize) -> VvcVps {
+        let sublayers = if self.one_in(3) { 0 } else { self.random.below(7) as u8 };
+        VvcVps {
+            vps_video_parameter_set_id: self.byte(4),
+            vps_max_sublayers_minus1: sublayers,
+            vps_default_ptl_dpb_hrd_max_tid_flag: if layers > 1 && sublayers > 0 { self.flag() } else { 1 },
+            vps_all_independent_layers_flag: u8::from(!matches!(mode, Mode::Zero | Mode::One | Mode::Two)),
+            vps_each_layer_is_an_ols_flag: u8::from(matches!(mode, Mode::OneLayer | Mode::EachLayer)),
+            vps_ols_mode_idc: match mode {
+                Mode::Zero => 0,
+                Mode::One => 1,
+                _ => 2,
+            },
+            ..Default::default()
+        }
     }
 
     fn layers(&mut self, v: &mut VvcVps, count: usize) {
