@@ -111,7 +111,7 @@ reached_below d h (direct {i = i} {j = j} e) = h i j e
 reached_below d h (through {i = i} {k = k} {j = j} l e r) = let u : j < k = reached_below d h r in omega arith
 
 -- no layer from n on is in a row of n layers
-included_low : (n : ℕ) (d : ℕ → ℕ → Bool) (p : ℕ → Bool) → ((i j : ℕ) → d i j ≡ true → j < i) → ((j : ℕ) → p j ≡ true → j < n) → (j : ℕ) → n ≤ j → included n d p j ≡ false
+pub included_low : (n : ℕ) (d : ℕ → ℕ → Bool) (p : ℕ → Bool) → ((i j : ℕ) → d i j ≡ true → j < i) → ((j : ℕ) → p j ≡ true → j < n) → (j : ℕ) → n ≤ j → included n d p j ≡ false
 included_low n d p hd hp j l = go (included n d p j) refl
   where
     never : included n d p j ≡ true → ⊥
