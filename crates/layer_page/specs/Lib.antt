@@ -1,0 +1,5 @@
+pub mod Page
+pub mod Places
+pub mod Lines
+pub mod Masks
+pub mod Answers
