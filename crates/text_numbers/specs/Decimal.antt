@@ -1,8 +1,7 @@
--- A number in decimal digits, and that io::decimal gives them.
-use Rattle.std.specs.Prelude.{ℕ, zero, suc, ◌+◌, ◌-◌, ◌/◌, ◌%◌, ◌^◌, ◌≤◌, ◌<◌, ◌≡◌, refl, List, [], ◌∷◌, ◌++◌, Bool, true, false, cond, ltb, leb, length}
-use Rattle.std.proofs.Common.{sym, ap, ◌∙◌, pow-suc, arith, lt-ltb, le-ltb, ltb-true, leb-true, leb-false, length-append}
-use Rattle.std.proofs.Math.Nat.{pow-le-pow_right}
-use Rattle.io.specs.Digits.{hex_digit_ascii, last_digits, IsDigitCount}
+-- A number in decimal digits, and how they are found, the last one first.
+use Rattle.std.specs.Prelude.{ℕ, zero, suc, ◌+◌, ◌-◌, ◌/◌, ◌%◌, ◌^◌, ◌≤◌, ◌<◌, ◌≡◌, refl, List, [], ◌∷◌, ◌++◌, Bool, true, false, ltb, length, set, drop}
+use Rattle.std.proofs.Common.{sym, ap, ◌∙◌, pow-suc, arith, add-one, append-nil, append_assoc, lt-ltb, le-ltb, ltb-true, length-append}
+use Rattle.std.proofs.lemmas.List.{drop_all, drop-set}
 
 -- in at most so many digits
 unfoldable pub decimal_in : (places n : ℕ) → List ℕ
@@ -17,49 +16,52 @@ decimal = decimal_in 20
 abbrev pub decimal32 : ℕ → List ℕ
 decimal32 = decimal_in 10
 
-glyph_is : (d : ℕ) → d < 10 → hex_digit_ascii d ≡ 48 + d
-glyph_is d h = ap (λ (b : Bool). cond b (48 + d) (87 + d)) (lt-ltb d 10 h)
-
-fewest_shorter : (i n : ℕ) → IsDigitCount 10 1 n (suc (suc i)) → IsDigitCount 10 1 (n / 10) (suc i)
-fewest_shorter i n f = (
-  omega arith,
-  omega (arith, f.1, pow-suc 10 (suc i)),
-  λ h. omega (arith, f.2 (omega arith), pow-suc 10 (suc i - 1), ap (λ (k : ℕ). 10 ^ k) (next h)),
-)
-  where
-    next : 1 < suc i → suc (suc i) - 1 ≡ suc (suc i - 1)
-    next h = omega (arith, h)
-
 -- one digit, and several
-single : (k n : ℕ) → n < 10 → decimal_in (suc k) n ≡ last_digits 10 1 n
+single : (k n : ℕ) → n < 10 → decimal_in (suc k) n ≡ (48 + n) ∷ []
 unfolding decimal_in
-single k n h = rw (lt-ltb n 10 h, decimal_in) (ap (λ (d : ℕ). d ∷ []) (sym (ap hex_digit_ascii (small h) ∙ glyph_is n h)))
-  where
-    small : n < 10 → n % 10 ≡ n
-    small l = omega (arith, l)
+single k n h = rw (lt-ltb n 10 h, decimal_in) refl
 
-several : (k i n : ℕ) → decimal_in k (n / 10) ≡ last_digits 10 (suc i) (n / 10) → 10 ≤ n → decimal_in (suc k) n ≡ last_digits 10 (suc (suc i)) n
+several : (k n : ℕ) → 10 ≤ n → decimal_in (suc k) n ≡ decimal_in k (n / 10) ++ ((48 + n % 10) ∷ [])
 unfolding decimal_in
-several k i n e h = rw (le-ltb n 10 h, decimal_in) (ap (λ (x : List ℕ). x ++ ((48 + n % 10) ∷ [])) e ∙ ap (λ (d : ℕ). last_digits 10 (suc i) (n / 10) ++ (d ∷ [])) (sym (glyph_is (n % 10) (omega arith))))
+several k n h = rw (le-ltb n 10 h, decimal_in) refl
 
--- the fewest digits are these
-pub fewest_decimal : (k i n : ℕ) → IsDigitCount 10 1 n i → i ≤ k → decimal_in k n ≡ last_digits 10 i n
-fewest_decimal k zero n f l = absurd (omega (arith, f.0))
-fewest_decimal zero (suc i) n f l = absurd (omega (arith, l))
-fewest_decimal (suc k) (suc zero) n f l = single k n f.1
-fewest_decimal (suc k) (suc (suc i)) n f l =
-    several k i n (fewest_decimal k (suc i) (n / 10) (fewest_shorter i n f) (omega (arith, l)))
-    (omega (arith, f.2 (omega arith), pow-le-pow_right {n = 10} (omega arith) {i = 1} {j = suc (suc i) - 1} (omega arith)))
+-- ── The digits of a number, from the last one on ──────────────────────
+-- those behind a place stand in a room of twenty bytes, and those of the rest belong before them
+pub record Stands (n rest at : ℕ) (room : List ℕ) : Type 0 where
+  pub inside : at < 20
+  pub few : rest < 10 ^ (at + 1)
+  pub is : decimal n ≡ decimal_in (at + 1) rest ++ drop (at + 1) room
 
-pub decimal_digits : (i n : ℕ) → IsDigitCount 10 1 n i → n < 18446744073709551616 → decimal n ≡ last_digits 10 i n
-decimal_digits i n f h = fewest_decimal 20 i n f (go (leb i 20) refl)
+pub stands_begin : (n : ℕ) {room : List ℕ} → n < 18446744073709551616 → length room ≡ 20 → Stands n n 19 room
+stands_begin n {room} h l =
+    record { inside = omega arith; few = omega (arith, h); is = sym (ap (λ (x : List ℕ). decimal n ++ x) (drop_all 20 room (omega (arith, l))) ∙ append-nil (decimal n)) }
+
+-- a digit more
+pub stands_more : {n rest at digit : ℕ} {room : List ℕ} → 0 < at → 10 ≤ rest → length room ≡ 20 → digit ≡ 48 + rest % 10 → Stands n rest at room → Stands n (rest / 10) (at - 1) (set room at digit)
+stands_more {n} {rest} {at} {digit} {room} h t l e S =
+    let back : at - 1 + 1 ≡ at = omega (arith, h) in
+    record {
+      inside = omega (arith, S.inside);
+      few = omega (arith, S.few, pow-suc 10 at, ap (λ (k : ℕ). 10 ^ k) (add-one at), ap (λ (k : ℕ). 10 ^ k) back);
+      is =
+          S.is
+          ∙ ap (λ (x : List ℕ). x ++ drop (at + 1) room) (ap (λ (k : ℕ). decimal_in k rest) (add-one at) ∙ several at rest t)
+          ∙ append_assoc (decimal_in at (rest / 10)) ((48 + rest % 10) ∷ []) (drop (at + 1) room)
+          ∙ ap (λ (d : ℕ). decimal_in at (rest / 10) ++ (d ∷ drop (at + 1) room)) (sym e)
+          ∙ ap (λ (x : List ℕ). decimal_in at (rest / 10) ++ x) (sym (drop-set room at digit (omega (arith, S.inside, l))))
+          ∙ ap (λ (k : ℕ). decimal_in k (rest / 10) ++ drop k (set room at digit)) (sym back);
+    }
+
+-- the first digit
+pub stands_end : {n rest at digit : ℕ} {room : List ℕ} → (0 < at → rest < 10) → length room ≡ 20 → digit ≡ 48 + rest % 10 → Stands n rest at room → drop at (set room at digit) ≡ decimal n
+stands_end {n} {rest} {at} {digit} {room} h l e S =
+    drop-set room at digit (omega (arith, S.inside, l))
+    ∙ ap (λ (d : ℕ). d ∷ drop (at + 1) room) (e ∙ omega (arith, few at S.few h))
+    ∙ sym (S.is ∙ ap (λ (x : List ℕ). x ++ drop (at + 1) room) (ap (λ (k : ℕ). decimal_in k rest) (add-one at) ∙ single at rest (few at S.few h)))
   where
-    go : (b : Bool) → leb i 20 ≡ b → i ≤ 20
-    go true g = leb-true i 20 g
-    go false g =
-        let long : 20 < i = leb-false i 20 g in
-        let p : 100000000000000000000 ≤ 10 ^ (i - 1) = pow-le-pow_right {n = 10} (omega arith) {i = 20} {j = i - 1} (omega (arith, long)) in
-        absurd (omega (arith, h, p, f.2 (omega (arith, long))))
+    few : (at : ℕ) → rest < 10 ^ (at + 1) → (0 < at → rest < 10) → rest < 10
+    few zero f g = omega (arith, f)
+    few (suc k) f g = g (omega arith)
 
 -- ── Places ────────────────────────────────────────────────────────────
 pub places_most : (k n : ℕ) → length (decimal_in k n) ≤ k
@@ -72,7 +74,7 @@ places_most (suc k) n = go (ltb n 10) refl (places_most k (n / 10))
     go false e h = rw (e, decimal_in) (omega (arith, length-append (decimal_in k (n / 10)) ((48 + n % 10) ∷ []), h))
 
 -- places beyond those that a number takes change nothing
-enough_places : (k l n : ℕ) → k ≤ l → n < 10 ^ suc k → decimal_in (suc k) n ≡ decimal_in (suc l) n
+pub enough_places : (k l n : ℕ) → k ≤ l → n < 10 ^ suc k → decimal_in (suc k) n ≡ decimal_in (suc l) n
 unfolding decimal_in
 enough_places zero l n h g = single 0 n g ∙ sym (single l n g)
 enough_places (suc k) zero n h g = absurd (omega (arith, h))

@@ -1,2 +1,2 @@
 pub mod Decimal
-pub mod Counted
+pub mod Aligned

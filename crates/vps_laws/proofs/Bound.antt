@@ -285,7 +285,7 @@ rows_most n =
     keeps_bind (keeps_loop (λ i rows t. length rows ≡ i) count 0 [] refl (λ i rows t l g. returns_bind _ λ flags. returns_bind _ λ c. keeps_done (length-append rows (flags ∷ []) ∙ ap (λ (k : ℕ). k + 1) g))) λ rows u g.
     keeps_done (omega (arith, e.2))
 
-sets_most : (h : Header) → h.layers ≤ 64 → Returns (λ s. total_num_olss h.layers s.sets ≤ 257) (sets_section h)
+pub sets_most : (h : Header) → h.layers ≤ 64 → Returns (λ s. total_num_olss h.layers s.sets ≤ 257) (sets_section h)
 unfolding sets_section no_rows total_num_olss
 sets_most h l =
     returns_bind _ λ e. returns_bind _ λ m. returns_bind _ λ c.

@@ -4,7 +4,6 @@ use Rattle.std.specs.Prelude.{ℕ, ◌+◌, ◌-◌, ◌/◌, ◌≤◌, ◌≡�
 use Rattle.std.proofs.Common.{arith, leb-true, eqb-true, lit≤, length-append, length-take}
 use Rattle.std.proofs.lemmas.List.{length-replicate}
 use Rattle.std.proofs.Math.Seq.{take-append_seam}
-use Rattle.io.specs.Counts.{IsPrefixLen}
 use Rattle.refusals.specs.Number.{record_too_short}
 use Rattle.lists.specs.Stored.{overlaid}
 use Rattle.stuffing.specs.Stuffing.{unstuff}
@@ -18,7 +17,6 @@ use Rattle.vps_laws.proofs.Lookup.{section_inside}
 use Rattle.vps_laws.proofs.Promises.{accepted_is_written}
 use Rattle.vps_reader.specs.Parse.{parse_of, record_after, parse_rbsp, parse_payload, parse_unit}
 use Rattle.texts.specs.Text.{Puts, puts_whole}
-use Rattle.text_numbers.specs.Counted.{puts_counts}
 use Rattle.vps_show.specs.Shown.{spaced, newline, part, line, general_name, layers_name, rows_name, ptls_name, ols_name, dpb_name, timing_name, extension_name, trailer_name, first_lines, last_lines, ok_text, record_text, shown, unit_bytes, record_numbers, shown_unit, too_long, shown_input}
 use Rattle.vps_show.specs.Room.{name_bytes, text_bytes, spaced_most, Takes, takes_then, ok_most, refused_fits, Fits, fits_if, untouched_fits}
 
@@ -91,5 +89,5 @@ shown_fits input = go (leb (length input) unit_bytes)
 
 -- so nothing of it is cut: the buffer begins with it, and is otherwise as before
 pub shown_whole : (input : List ℕ) {next : ℕ} {text text' : List ℕ} → Puts (shown_input input) 0 next text text' → text_bytes ≤ length text
-    → (next ≡ length (shown_input input)) × ((text' ≡ overlaid (shown_input input) text) × IsPrefixLen next text')
-shown_whole input p room = let w = puts_whole p (omega (arith, shown_fits input, room)) in (w.0, (w.1, puts_counts p))
+    → (next ≡ length (shown_input input)) × (text' ≡ overlaid (shown_input input) text)
+shown_whole input p room = puts_whole p (omega (arith, shown_fits input, room))

@@ -6,14 +6,12 @@ use Rattle.std.proofs.Math.Bool.{true, false}
 use Rattle.std.proofs.Common.{arith, length-append}
 use borrow.Author.Tests.{leb-true, le-leb}
 use Rattle.std.proofs.Math.Dec.{leb}
-use Rattle.io.specs.Counts.{IsPrefixLen}
 use Rattle.refusals.specs.Number.{not_a_vps, rbsp_too_long, work_too_short}
 use Rattle.lists.specs.Stored.{overlaid}
 use Rattle.stuffing.specs.Stuffing.{unstuff}
 use Rattle.texts.specs.Bytes.{bytes}
 use Rattle.texts.specs.Text.{Puts, puts_whole}
 use Rattle.text_numbers.specs.Decimal.{decimal, places_most}
-use Rattle.text_numbers.specs.Counted.{puts_counts}
 use Rattle.sentences.specs.Sentences.{sentence_of}
 use Rattle.sentences.proofs.Laws.{sentence_most}
 use Rattle.vps_definition.specs.Reading.{Reading, read_rbsp, read_unit, most_rbsp_bytes, limited_by, vps_nut, unit_by}
@@ -83,6 +81,6 @@ line_fits (accepts r n) = omega arith
 line_fits (refuses k) = simp length-append (omega (arith, places_most 20 k, sentence_most k))
 
 pub why_whole : (u : List ℕ) {next : ℕ} {text text' : List ℕ} → Puts (why u) 0 next text text' → line_bytes ≤ length text
-    → (next ≡ length (why u)) × ((text' ≡ overlaid (why u) text) × IsPrefixLen next text')
+    → (next ≡ length (why u)) × (text' ≡ overlaid (why u) text)
 unfolding why
-why_whole u p room = let w = puts_whole p (omega (arith, line_fits (read_unit u), room)) in (w.0, (w.1, puts_counts p))
+why_whole u p room = puts_whole p (omega (arith, line_fits (read_unit u), room))

@@ -1,8 +1,7 @@
--- `put_decimal` meets its contract: the fewest digits are those of the definition.
-use Rattle.std.proofs.Common.{sym, ◌∙◌, arith}
+-- `put_decimal` meets its contract: in no width there is no blank.
 use Rattle.texts.specs.Adds.{adds_same}
-use Rattle.text_numbers.specs.Decimal.{decimal_digits}
+use Rattle.text_numbers.specs.Aligned.{aligned_none}
 use Rattle.text_numbers.proofs.put_decimal.Goals as goal
 
 pub returns : goal.returns
-returns c = adds_same (c.decimal-count.ensures.digits ∙ sym (decimal_digits c.decimal-count.result c.args.n c.decimal-count.ensures.len (omega (arith, c.ranges.n)))) c.put.ensures
+returns c = adds_same (aligned_none _) c.put_right_aligned.ensures

@@ -10,10 +10,10 @@ returns-clause-value c =
     let unit = c.args.unit.now in
     let put = adds_same (ap parsed_line c.parse_vps-answer.ensures.answered ∙ of_unit _ _ (omega arith) unit) c.put_answer.ensures in
     let whole = why_whole unit (puts_first put c.at-line.ensures.place c.at-line.ensures.bytes) (omega arith) in
-    (λ i. take (whole.0 i) (whole.1.0 i)) ∙ take-append_seam (why unit) _
+    (λ i. take (whole.0 i) (whole.1 i)) ∙ take-append_seam (why unit) _
 
 pub returns-clause-text_after : goal.returns-clause-text_after
 returns-clause-text_after c =
     let unit = c.args.unit.now in
     let put = adds_same (ap parsed_line c.parse_vps-answer.ensures.answered ∙ of_unit _ _ (omega arith) unit) c.put_answer.ensures in
-    (why_whole unit (puts_first put c.at-line.ensures.place c.at-line.ensures.bytes) (omega arith)).1.0
+    (why_whole unit (puts_first put c.at-line.ensures.place c.at-line.ensures.bytes) (omega arith)).1
