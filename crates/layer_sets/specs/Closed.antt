@@ -99,7 +99,7 @@ row_mask d p closed n m h C e =
     mask_ext 64 _ _ (row_bits (reaches d) p closed n m h C.masks (λ j l. ap (λ (x : ℕ). bit_of x j) e ∙ mask_bit 64 p j l))
 
 -- nothing counts from n on where the property holds of none there
-count_cut : (n k : ℕ) (p : ℕ → Bool) → ((j : ℕ) → n ≤ j → p j ≡ false) → count_below (n + k) p ≡ count_below n p
+pub count_cut : (n k : ℕ) (p : ℕ → Bool) → ((j : ℕ) → n ≤ j → p j ≡ false) → count_below (n + k) p ≡ count_below n p
 unfolding count_below
 count_cut zero k p h = rw zero-add (count_none k p (λ j l. h j (omega arith)))
 count_cut (suc n) k p h =
@@ -111,7 +111,7 @@ reached_below d h (direct {i = i} {j = j} e) = h i j e
 reached_below d h (through {i = i} {k = k} {j = j} l e r) = let u : j < k = reached_below d h r in omega arith
 
 -- no layer from n on is in a row of n layers
-included_low : (n : ℕ) (d : ℕ → ℕ → Bool) (p : ℕ → Bool) → ((i j : ℕ) → d i j ≡ true → j < i) → ((j : ℕ) → p j ≡ true → j < n) → (j : ℕ) → n ≤ j → included n d p j ≡ false
+pub included_low : (n : ℕ) (d : ℕ → ℕ → Bool) (p : ℕ → Bool) → ((i j : ℕ) → d i j ≡ true → j < i) → ((j : ℕ) → p j ≡ true → j < n) → (j : ℕ) → n ≤ j → included n d p j ≡ false
 included_low n d p hd hp j l = go (included n d p j) refl
   where
     never : included n d p j ≡ true → ⊥

@@ -30,7 +30,7 @@ pub digit_most : (b : Bool) → digit b ≤ 1
 digit_most true = omega arith
 digit_most false = omega arith
 
-count_suc : (n : ℕ) (p : ℕ → Bool) → count_below (suc n) p ≡ count_below n p + digit (p n)
+pub count_suc : (n : ℕ) (p : ℕ → Bool) → count_below (suc n) p ≡ count_below n p + digit (p n)
 unfolding count_below
 count_suc zero p = add_comm (digit (p 0)) 0
 count_suc (suc n) p =
