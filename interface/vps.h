@@ -1,7 +1,7 @@
 /*
  * H.266 video parameter sets (VPS): reading a unit into a record, writing a record as a unit, looking up a record's sections,
- * byte stuffing, and refusals as sentences that can be read out. The functions stand in the archive libvps_c.a (README.md says how
- * to link it); each is proved to do what is said here, for all bytes, numbers and lengths.
+ * printing its layer page, byte stuffing, and refusals as sentences that can be read out. The functions stand in the archive
+ * libvps_c.a (README.md says how to link it); each is proved to do what is said here, for all bytes, numbers and lengths.
  *
  * Every function but vps_sentence_number, which gives the number that a sentence names, gives 0 (VPS_SUCCESS) or the number of a
  * refusal. None fails in another way. A buffer is a pointer and the number of its elements. What a caller owes:
@@ -33,6 +33,9 @@ extern "C" {
 
 /* The longest unit that is written, in bytes: an output of this length is long enough for every record. */
 #define VPS_MOST_UNIT_BYTES 98304
+
+/* 257 sets, a line of 72 bytes each: an output of this length is long enough for every layer page. */
+#define VPS_MOST_PAGE_BYTES 18504
 
 /* Three words of at most 15 bytes each and two blanks: an output of this length is long enough for every sentence. */
 #define VPS_MOST_SENTENCE_BYTES 47
@@ -114,9 +117,9 @@ enum vps_answer {
     /* record: record buffer too short; the needed length is stored */
     VPS_RECORD_TOO_SHORT = 30,
 
-    /* writer: not well formed */
+    /* writer, layer page: not well formed */
     VPS_NOT_WELL_FORMED = 31,
-    /* writer, adding and removing stuffing, sentences: output too short */
+    /* writer, layer page, adding and removing stuffing, sentences: output too short */
     VPS_OUTPUT_TOO_SHORT = 32
 };
 
@@ -178,6 +181,26 @@ uint32_t vps_write(const uint32_t *record, size_t record_length, uint8_t *output
  *             end: *start is record_length, and *count is 0.
  */
 uint32_t vps_section(const uint32_t *record, size_t record_length, uint32_t number, uint64_t *start, uint64_t *count);
+
+/*
+ * Prints the layer page of a record: its output layer sets, a line each, in set order.
+ *
+ * A line has 72 bytes: the set's index, right-aligned in 3; a blank; how many layers the set has, right-aligned in 2; a blank; 64
+ * places; and a line feed. Place i is '#' if layer i is in the set, '.' if it is not, and a blank from the number of layers on. A set
+ * has its output layers and all that they reach through direct references, over any number of steps.
+ *
+ * record, record_length  exactly the record, as long as vps_parse said, in numbers; it is not changed
+ * output, output_length  where the page is stored; VPS_MOST_PAGE_BYTES are always enough, and exactly as many as it has are
+ * length                 see below
+ *
+ * 0           *length is the page's length in bytes, 72 for each set. The page stands at the beginning of output; what is behind it
+ *             is as before, so there is no terminating zero.
+ * 31          the record is not well formed, whatever the output's length; output and *length are as before.
+ * 32          output is shorter than the page; output and *length are as before.
+ *
+ * No other number is given.
+ */
+uint32_t vps_layer_page(const uint32_t *record, size_t record_length, uint8_t *output, size_t output_length, uint64_t *length);
 
 /*
  * Removes stuffing: drops the 03 of each 00 00 03, from the left, also at the end.

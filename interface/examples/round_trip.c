@@ -1,6 +1,6 @@
 /*
- * Reads each unit named on the command line, a file each, prints its record, a line a section, writes the record back, and says
- * whether the bytes are the same. A refusal is printed by its number and its sentence.
+ * Reads each unit named on the command line, a file each, prints its record, a line a section, and its layer page, writes the record
+ * back, and says whether the bytes are the same. A refusal is printed by its number and its sentence.
  */
 #include <inttypes.h>
 #include <stdio.h>
@@ -10,11 +10,12 @@
 
 static const char *const section_names[] = {"general", "layers", "rows", "ptls", "ols", "dpb", "timing", "extension", "trailer"};
 
-/* room for every unit that is written, for every RBSP and for every record */
+/* room for every unit that is written, for every RBSP, for every record and for every layer page */
 static uint8_t unit[VPS_MOST_UNIT_BYTES];
 static uint8_t work[VPS_MOST_RBSP_BYTES];
 static uint32_t record[VPS_MOST_RECORD_NUMBERS];
 static uint8_t output[VPS_MOST_UNIT_BYTES];
+static uint8_t page[VPS_MOST_PAGE_BYTES];
 
 static void print_section(uint64_t length, uint32_t number) {
     uint64_t start, count;
@@ -34,7 +35,7 @@ static void print_refusal(const char *what, uint32_t number) {
 }
 
 static void round_trip(size_t unit_length) {
-    uint64_t length, bits_used, written;
+    uint64_t length, bits_used, page_length, written;
     uint32_t answer = vps_parse(unit, unit_length, work, sizeof work, record, VPS_MOST_RECORD_NUMBERS, &length, &bits_used);
     if (answer != VPS_SUCCESS) {
         print_refusal("refused", answer);
@@ -44,6 +45,12 @@ static void round_trip(size_t unit_length) {
     for (uint32_t number = VPS_SECTION_GENERAL; number <= VPS_SECTION_TRAILER; number++) {
         print_section(length, number);
     }
+    answer = vps_layer_page(record, length, page, sizeof page, &page_length);
+    if (answer != VPS_SUCCESS) {
+        print_refusal("no layer page, refused", answer);
+        return;
+    }
+    fwrite(page, 1, page_length, stdout);
     answer = vps_write(record, length, output, sizeof output, &written);
     if (answer != VPS_SUCCESS) {
         print_refusal("not written, refused", answer);

@@ -1,12 +1,20 @@
-//! Reads each unit named on the command line, a file each, prints its record, a line a section, writes the record back, and says
-//! whether the bytes are the same. A refusal is printed by its number and its sentence.
+//! Reads each unit named on the command line, a file each, prints its record, a line a section, and its layer page, writes the record
+//! back, and says whether the bytes are the same. A refusal is printed by its number and its sentence.
 use std::error::Error;
 use std::{env, fs};
-use teglyovash::{parse, section, write, Refusal, Section, MOST_RBSP_BYTES, MOST_RECORD_NUMBERS, MOST_UNIT_BYTES};
+use teglyovash::{layer_page, parse, section, write, Refusal, Section};
+use teglyovash::{MOST_PAGE_BYTES, MOST_RBSP_BYTES, MOST_RECORD_NUMBERS, MOST_UNIT_BYTES};
 
 fn print_section(record: &[u32], which: Section) {
     let numbers: String = section(record, which).iter().map(|n| format!(" {n}")).collect();
     println!("{}{numbers}", which.name());
+}
+
+fn print_page(record: &[u32]) -> Result<(), Refusal> {
+    let mut page = vec![0; MOST_PAGE_BYTES];
+    let length = layer_page(record, &mut page)?;
+    print!("{}", String::from_utf8_lossy(&page[..length]));
+    Ok(())
 }
 
 fn round_trip(unit: &[u8]) -> Result<(), Refusal> {
@@ -18,6 +26,7 @@ fn round_trip(unit: &[u8]) -> Result<(), Refusal> {
     for which in Section::ALL {
         print_section(record, which);
     }
+    print_page(record)?;
     let mut output = vec![0; MOST_UNIT_BYTES];
     let written = write(record, &mut output)?;
     let same = if output[..written] == *unit { "the same" } else { "not the same" };

@@ -2,7 +2,8 @@
 // what it stores is in the buffers and numbers that the caller lends.
 
 use crate::declared::{
-    vps_ebsp_to_rbsp, vps_parse, vps_rbsp_to_ebsp, vps_section, vps_sentence, vps_sentence_number, vps_write,
+    vps_ebsp_to_rbsp, vps_layer_page, vps_parse, vps_rbsp_to_ebsp, vps_section, vps_sentence, vps_sentence_number,
+    vps_write,
 };
 
 // In each call the pointers and lengths are those of slices and numbers that live through it.
@@ -19,6 +20,10 @@ pub fn write(record: &[u32], output: &mut [u8], written: &mut u64) -> u32 {
 
 pub fn section(record: &[u32], number: u32, start: &mut u64, count: &mut u64) -> u32 {
     unsafe { vps_section(record.as_ptr(), record.len(), number, start, count) }
+}
+
+pub fn layer_page(record: &[u32], output: &mut [u8], length: &mut u64) -> u32 {
+    unsafe { vps_layer_page(record.as_ptr(), record.len(), output.as_mut_ptr(), output.len(), length) }
 }
 
 pub fn ebsp_to_rbsp(source: &[u8], output: &mut [u8], length: &mut u64) -> u32 {

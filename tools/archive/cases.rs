@@ -26,7 +26,7 @@ pub fn cases() -> Vec<Case> {
         Case::new("U, one layer", one_layer()),
         Case::new("three layers", sample(include_bytes!("../../samples/three_layers.vps"))),
         Case::new("timing, two schedules", sample(include_bytes!("../../samples/timing.vps"))),
-        Case::new("64 layers, 256 rows", many_rows()),
+        Case::new("64 layers, 256 rows", with_rows(256)),
         Case::new("full timing", with_timing(7)),
         Case::new("long extension", with_extension(65_535)),
     ]
@@ -39,6 +39,17 @@ pub fn growth() -> Vec<Case> {
     let by_timing =
         [1, 2, 4, 8, 13].map(|entries| Case::new(format!("timing, entries {entries}"), with_timing(entries)));
     by_extension.into_iter().chain(by_timing).collect()
+}
+
+// By their sets: one, 64 of each way that has no rows, and then 64 and 257 by rows.
+pub fn by_sets() -> Vec<Case> {
+    vec![
+        Case::new("U, one layer", one_layer()),
+        Case::new("64 layers, each a set", each_a_set()),
+        Case::new("64 layers, mode 0", with_buffers(VvcVps { vps_ols_mode_idc: 0, ..layered(64, 1) }, 64, 63)),
+        Case::new("64 layers, 63 rows", with_rows(63)),
+        Case::new("64 layers, 256 rows", with_rows(256)),
+    ]
 }
 
 fn sample(unit: &[u8]) -> VvcVps {
@@ -105,17 +116,26 @@ fn with_buffers(mut v: VvcVps, total: usize, multi: usize) -> VvcVps {
     v
 }
 
+// Layers that are all independent, each a set.
+fn each_a_set() -> VvcVps {
+    let mut v = one_layer();
+    let first = v.layers[0].clone();
+    v.layers = (0..64).map(|i| VvcVpsLayer { vps_layer_id: i, ..first.clone() }).collect();
+    v.vps_ols_ptl_idx = vec![0; 64];
+    v
+}
+
 // Mode 2: every row has the highest layer, which reaches others.
-fn many_rows() -> VvcVps {
+fn with_rows(rows: usize) -> VvcVps {
     let mut random = Random::new(3);
     let mut v = layered(64, 1);
     v.vps_ols_mode_idc = 2;
-    for _ in 0..256 {
+    for _ in 0..rows {
         let mut row: Vec<u8> = (0..64).map(|_| random.below(2) as u8).collect();
         row[63] = 1;
         v.vps_ols_output_layer_flags.push(row);
     }
-    with_buffers(v, 257, 256)
+    with_buffers(v, rows + 1, rows)
 }
 
 // Mode 0 with so many timing entries, one for each set of several layers: seven sublayers, 32 schedules of both kinds

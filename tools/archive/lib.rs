@@ -4,6 +4,7 @@ pub mod calls;
 pub mod cases;
 #[path = "../../interface/rust/src/declared.rs"]
 mod declared;
+pub mod pages;
 pub mod reading;
 pub mod report;
 pub mod sections;

@@ -47,9 +47,39 @@ impl Ruled {
     }
 }
 
+// What layer pages that are right show.
+#[derive(Clone, Copy, PartialEq, Eq, PartialOrd, Ord)]
+pub enum Paged {
+    Page,
+    MostLayers,
+    MostSets,
+    Line,
+    LineOfTwoSteps,
+}
+
+impl Paged {
+    const ALL: [Paged; 5] = [Paged::Page, Paged::MostLayers, Paged::MostSets, Paged::Line, Paged::LineOfTwoSteps];
+
+    fn name(self) -> &'static str {
+        match self {
+            Paged::Page => "pages compared whole",
+            Paged::MostLayers => "pages of 64 layers",
+            Paged::MostSets => "pages of 257 sets",
+            Paged::Line => "lines",
+            Paged::LineOfTwoSteps => "lines with a layer that is two steps away or more",
+        }
+    }
+
+    // The fuzzer's units are too short for the longest pages.
+    fn is_of_short_units(&self) -> bool {
+        !matches!(self, Paged::MostLayers | Paged::MostSets)
+    }
+}
+
 #[derive(Default)]
 pub struct Report {
     ruled: BTreeMap<Ruled, usize>,
+    paged: BTreeMap<Paged, usize>,
     answers: BTreeMap<(&'static str, Answer), usize>,
     inputs: BTreeMap<(&'static str, &'static str), usize>,
     shapes: BTreeMap<&'static str, usize>,
@@ -81,6 +111,11 @@ impl Report {
     // An input that the second judge has an answer for.
     pub fn ruled(&mut self, what: Ruled) {
         *self.ruled.entry(what).or_default() += 1;
+    }
+
+    // So many of what pages show.
+    pub fn paged(&mut self, what: Paged, count: usize) {
+        *self.paged.entry(what).or_default() += count;
     }
 
     pub fn difference(&mut self, words: impl FnOnce() -> String) {
@@ -115,6 +150,7 @@ impl Report {
             println!("| {call} | {} | {count} |", answer.name());
         }
         self.print_ruled();
+        self.print_paged();
         let few = self.too_few();
         few.iter().for_each(|words| println!("TOO FEW: {words}"));
         println!("\ncalls {}, differences {}", self.answers.values().sum::<usize>(), self.differences);
@@ -137,15 +173,39 @@ impl Report {
         few.map(|what| format!("{}: {}", what.name(), self.count_ruled(what))).collect()
     }
 
-    fn too_few(&self) -> Vec<String> {
-        let expected = expected();
+    pub fn print_paged(&self) {
+        println!("\n| Layer pages | Count |\n|---|---|");
+        Paged::ALL.iter().for_each(|what| println!("| {} | {} |", what.name(), self.count_paged(what)));
+    }
+
+    fn count_paged(&self, what: &Paged) -> usize {
+        self.paged.get(what).copied().unwrap_or(0)
+    }
+
+    fn few_paged(&self, asked: impl Fn(&Paged) -> bool) -> Vec<String> {
+        let few = Paged::ALL.iter().filter(|what| asked(what) && self.count_paged(what) < LEAST);
+        few.map(|what| format!("{}: {}", what.name(), self.count_paged(what))).collect()
+    }
+
+    // What pages of short units had too seldom, the answers of each mode among them.
+    pub fn few_short_pages(&self) -> Vec<String> {
+        let answers = self.few_answers(page_answers());
+        answers.into_iter().chain(self.few_paged(Paged::is_of_short_units)).collect()
+    }
+
+    fn few_answers(&self, expected: Vec<(&'static str, Answer)>) -> Vec<String> {
         let count = |key| self.answers.get(key).copied().unwrap_or(0);
         let least = |answer| if answer == Answer::Refused(1) { LEAST_OF_1 } else { LEAST };
         let short = expected.iter().filter(|key| count(key) < least(key.1));
-        let mut few: Vec<String> = short.map(|key| format!("{}, {}: {}", key.0, key.1.name(), count(key))).collect();
+        short.map(|key| format!("{}, {}: {}", key.0, key.1.name(), count(key))).collect()
+    }
+
+    fn too_few(&self) -> Vec<String> {
+        let mut few = self.few_answers(expected());
         let shown = |name| self.shapes.get(name).copied().unwrap_or(0);
         few.extend(SHAPES.iter().filter(|name| shown(*name) < LEAST).map(|name| format!("{name}: {}", shown(name))));
         few.extend(self.few_ruled());
+        few.extend(self.few_paged(|_| true));
         few
     }
 }
@@ -158,6 +218,7 @@ fn expected() -> Vec<(&'static str, Answer)> {
     }
     all.extend((1..=30).map(|number| ("vps_parse", Answer::Refused(number))));
     all.extend([31, 32].map(|number| ("vps_write", Answer::Refused(number))));
+    all.extend(page_answers());
     for call in ["vps_ebsp_to_rbsp", "vps_rbsp_to_ebsp", "vps_sentence"] {
         all.extend([(call, Answer::Success), (call, Answer::Refused(32))]);
     }
@@ -166,6 +227,12 @@ fn expected() -> Vec<(&'static str, Answer)> {
             .map(|call| (call, Answer::Success)),
     );
     all
+}
+
+// A page of each mode, and its refusals.
+fn page_answers() -> Vec<(&'static str, Answer)> {
+    let refused = [31, 32].map(Answer::Refused);
+    MODES.map(Answer::Of).into_iter().chain(refused).map(|answer| ("vps_layer_page", answer)).collect()
 }
 
 // The first so many numbers of a list, as text.

@@ -1,9 +1,10 @@
 // Times the static archive beside the Rust: the same units, one driver, batches in turn, medians over many rounds.
 use archive::calls;
-use archive::cases::{cases, growth, Case};
+use archive::cases::{by_sets, cases, growth, Case};
 use archive::sentences::MOST_SENTENCE;
 use bitstream::h266::{parse_vps, write_vps_nal};
 use bitstream::nal::{ebsp_to_rbsp, rbsp_to_ebsp};
+use judge::page::{Page, LINE_BYTES};
 use judge::record::record_of;
 use judge::show::unit_of;
 use std::hint::black_box;
@@ -18,6 +19,7 @@ fn main() -> ExitCode {
     match &words[..] {
         [] => beside_the_rust(),
         [word] if word == "sentences" => return sentences(),
+        [word] if word == "page" => return pages(),
         [side, call, name, count] => repeat(side, call, name, count.parse().expect("a number")),
         _ => return ExitCode::from(2),
     }
@@ -78,8 +80,45 @@ fn number_time(bytes: usize) -> f64 {
     let mut run = || {
         black_box(calls::sentence_number(black_box(&hostile)));
     };
-    let count = batch_size(&mut run);
-    median((0..ROUNDS).map(|_| batch(&mut run, count)).collect())
+    time(&mut run)
+}
+
+// ── Layer pages, which the Rust has not ─────────────────────────────────
+
+// A record with 257 sets by rows may take at most so many times as long as one with 64 of the same layers. As many times as
+// there are more lines would be 4.
+const MOST_TIMES: f64 = 6.0;
+
+fn pages() -> ExitCode {
+    println!("| Record | Numbers | Sets | Page, ns | A line, ns | `vps_write`, ns | Page to write |");
+    println!("|---|---|---|---|---|---|---|");
+    let times: Vec<f64> = by_sets().iter().map(page_row).collect();
+    let ratio = times[4] / times[3];
+    println!("\n257 sets to 64, by rows: {ratio:.2}; at most {MOST_TIMES}");
+    if ratio <= MOST_TIMES {
+        ExitCode::SUCCESS
+    } else {
+        ExitCode::FAILURE
+    }
+}
+
+fn page_row(case: &Case) -> f64 {
+    let (record, sets) = (record_of(&case.vps), case.vps.vps_ols_ptl_idx.len());
+    let (mut output, mut unit) = (vec![0; sets * LINE_BYTES], vec![0; case.unit.len()]);
+    let (mut length, mut written) = (0, 0);
+    assert_eq!(calls::layer_page(&record, &mut output, &mut length), 0, "the page is printed");
+    assert!(output == Page::of(&case.vps).bytes, "as the second judge prints it");
+    let page = time(&mut || {
+        let number = calls::layer_page(black_box(&record), &mut output, &mut length);
+        black_box((number, &output, length));
+    });
+    let write = time(&mut || {
+        let number = calls::write(black_box(&record), &mut unit, &mut written);
+        black_box((number, &unit, written));
+    });
+    let (name, line, ratio) = (&case.name, page / sets as f64, page / write);
+    println!("| {name} | {} | {sets} | {page:.0} | {line:.0} | {write:.0} | {ratio:.2} |", record.len());
+    page
 }
 
 // ── One side alone, for a profiler ──────────────────────────────────────
@@ -224,6 +263,12 @@ fn batch(run: &mut dyn FnMut(), count: usize) -> f64 {
     let began = processor_time();
     (0..count).for_each(|_| run());
     (processor_time() - began) as f64 / count as f64
+}
+
+// The median of one side alone, in nanoseconds a call.
+fn time(run: &mut dyn FnMut()) -> f64 {
+    let count = batch_size(run);
+    median((0..ROUNDS).map(|_| batch(run, count)).collect())
 }
 
 fn median(mut times: Vec<f64>) -> f64 {

@@ -1,11 +1,12 @@
-// Units to compare: all short ones, units of every mode and size as they are written, damaged copies, random bytes, and
-// units around the greatest length.
+// Units to compare: all short ones, units of every mode and size as they are written, damaged copies, random bytes, units
+// with many layers and sets, and units around the greatest length.
 use bitstream::h266::{write_vps, VvcVps};
 use judge::draft::{unit_of_rbsp, Draft};
 use judge::extension_rule::{write_rbsp, write_unit};
+use judge::page::{MOST_LAYERS, MOST_SETS};
 use judge::random::Random;
 use judge::show::unit_of;
-use judge::structures::{Maker, MODES};
+use judge::structures::{Maker, Mode, MODES};
 use judge::units::Units;
 use std::collections::VecDeque;
 
@@ -74,6 +75,9 @@ pub struct Inputs {
 
 const POOL: usize = 1_024;
 
+// One unit in so many has many layers or sets.
+const WIDE: usize = 256;
+
 // A long extension ends in at most so many zeros: in a run of zeros with a one among them the Rust takes time that grows
 // with the square of its length.
 const MOST_ZEROS: usize = 4_096;
@@ -90,6 +94,9 @@ impl Inputs {
     pub fn next(&mut self) -> Input {
         if let Some(input) = self.pending.pop_front() {
             return input;
+        }
+        if self.random.below(WIDE) == 0 {
+            return self.wide();
         }
         match self.random.below(32) {
             0..=12 => self.of_stream(0),
@@ -109,6 +116,17 @@ impl Inputs {
             self.pool[place].clone_from(&input.unit);
         }
         input
+    }
+
+    // Mostly of mode 2, with as many layers and rows as there can be, or fewer.
+    fn wide(&mut self) -> Input {
+        let mode =
+            [Mode::EachLayer, Mode::Zero, Mode::One, Mode::TwoInferred, Mode::Two, Mode::Two][self.random.below(6)];
+        let fewer = 2 + self.random.below(MOST_LAYERS - 1);
+        let layers = [fewer, MOST_LAYERS][self.random.below(2)];
+        let rows = [1 + self.random.below(MOST_SETS - 1), MOST_SETS - 1, MOST_SETS - 1][self.random.below(3)];
+        let v = self.maker.wide(mode, layers, rows);
+        Input { unit: write_unit(&v).expect("the structure is written"), kind: "many layers and sets" }
     }
 
     fn bytes(&mut self) -> Input {

@@ -1,8 +1,10 @@
 // The static archive against the Rust, over many units, records and byte strings: every number that a call returns or
 // stores and every lent buffer afterwards; and the sentences of the refusals that were met. What is set aside, extension
-// bits that end in 0, is held to the second judge. Ends with 1 if anything differs or if an answer was met too seldom.
+// bits that end in 0, is held to the second judge, and so are layer pages. Ends with 1 if anything differs or if an answer
+// was met too seldom.
 mod inputs;
 
+use archive::pages::Pages;
 use archive::reading::{Judged, Reader};
 use archive::report::Report;
 use archive::sections::Sections;
@@ -62,6 +64,7 @@ struct Run {
     inputs: Inputs,
     reader: Reader,
     writer: Writer,
+    pages: Pages,
     sections: Sections,
     stuffing: Stuffing,
     report: Report,
@@ -74,8 +77,9 @@ impl Run {
         let mut random = Random::new(seed);
         let mut next = || random.number();
         let (inputs, reader, writer) = (Inputs::new(next()), Reader::new(next()), Writer::new(next()));
-        let (sections, stuffing) = (Sections::new(next()), Stuffing::new(next()));
-        Self { random, inputs, reader, writer, sections, stuffing, report: Report::default(), records: Vec::new() }
+        let (sections, stuffing, pages) = (Sections::new(next()), Stuffing::new(next()), Pages::new(next()));
+        let (report, records) = (Report::default(), Vec::new());
+        Self { random, inputs, reader, writer, pages, sections, stuffing, report, records }
     }
 
     // All short units, and then so many in all.
@@ -114,10 +118,11 @@ impl Run {
         }
     }
 
-    // A list of numbers, well formed or not: written, and its sections.
+    // A list of numbers, well formed or not: written, its page, and its sections.
     fn list(&mut self, kind: &'static str, list: &[u32], every: bool) {
         self.report.input("list", kind);
         let unit = self.writer.compare(list, every, &mut self.report);
+        self.pages.compare(list, unit.is_some(), &mut self.report);
         if every || self.random.below(4) == 0 {
             self.sections.compare(list, unit.is_some(), &mut self.report);
         }

@@ -1,9 +1,10 @@
 // A coverage-guided fuzz target over the static archive, with the Rust as judge in the same process, and the second judge
-// for extension bits. An input's first byte chooses the lengths of the buffers, the rest is a unit; whatever differs ends
-// the run. What was set aside is printed at the end, which is a failure if it was too little.
+// for extension bits and layer pages. An input's first byte chooses the lengths of the buffers, the rest is a unit; whatever
+// differs ends the run. What the second judge had is printed at the end, which is a failure if it was too little.
 #![no_main]
 mod traps;
 
+use archive::pages::Pages;
 use archive::reading::{Judged, Reader};
 use archive::report::Report;
 use archive::sections::Sections;
@@ -24,7 +25,7 @@ unsafe extern "C" {
 #[unsafe(no_mangle)]
 pub extern "C" fn LLVMFuzzerInitialize(_count: *mut i32, _words: *mut *mut *mut u8) -> i32 {
     // The function lives as long as the program.
-    unsafe { atexit(say_set_aside) };
+    unsafe { atexit(say_second_judge) };
     if let Ok(file) = std::env::var("VPS_FUZZ_BLOCKS") {
         traps::set(&std::fs::read_to_string(file).expect("the list of blocks"));
     }
@@ -45,10 +46,11 @@ pub extern "C" fn LLVMFuzzerTestOneInput(data: *const u8, size: usize) -> i32 {
     0
 }
 
-extern "C" fn say_set_aside() {
+extern "C" fn say_second_judge() {
     let report = REPORT.lock().expect("no input is compared at the end");
     report.print_ruled();
-    let few = report.few_ruled();
+    report.print_paged();
+    let few = [report.few_ruled(), report.few_short_pages()].concat();
     few.iter().for_each(|words| println!("TOO FEW: {words}"));
     if !few.is_empty() {
         // Nothing is left to be done but to end with a failure.
@@ -65,6 +67,7 @@ fn compare(seed: u64, unit: &[u8], report: &mut Report) {
         let chosen = changed_by(&record, unit);
         for list in [record, other, chosen] {
             let written = Writer::new(seed).compare(&list, seed == 255, report);
+            Pages::new(seed).compare(&list, written.is_some(), report);
             Sections::new(seed).compare(&list, written.is_some(), report);
         }
     }

@@ -2,6 +2,7 @@
 // that was painted beforehand, and afterwards the lowest changed word is looked for.
 use archive::calls;
 use archive::cases::{cases, growth};
+use archive::pages::MOST_PAGE;
 use archive::sentences::MOST_SENTENCE;
 use bitstream::h266::{parse_vps, write_vps_nal};
 use judge::random::Random;
@@ -121,6 +122,10 @@ impl Depths {
         let (mut a, mut b) = (0, 0);
         self.call("vps_write", || {
             black_box(calls::write(record, output, &mut a));
+        });
+        let mut page = [0; MOST_PAGE];
+        self.call("vps_layer_page", || {
+            black_box(calls::layer_page(record, &mut page, &mut a));
         });
         self.call("the Rust's write_vps_nal", || {
             let _ = black_box(write_vps_nal(&vps));

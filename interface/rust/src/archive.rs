@@ -53,6 +53,15 @@ pub(crate) fn section(record: &[u32], number: u32) -> (u64, u64) {
     (start, count)
 }
 
+pub(crate) fn layer_page(record: &[u32], output: &mut [u8]) -> Said {
+    let mut stored = 0;
+    // SAFETY: as above.
+    let number = unsafe {
+        declared::vps_layer_page(record.as_ptr(), record.len(), output.as_mut_ptr(), output.len(), &mut stored)
+    };
+    Said { number, stored }
+}
+
 pub(crate) fn ebsp_to_rbsp(source: &[u8], output: &mut [u8]) -> Said {
     let mut stored = 0;
     // SAFETY: as above.

@@ -100,6 +100,42 @@ pub fn section(record: &[u32], number: impl Into<u32>) -> &[u32] {
     &record[position(start)..][..position(count)]
 }
 
+/// Prints the layer page of a record, its output layer sets, a line each in set order, and gives the page's length in bytes.
+///
+/// A line has 72 bytes: the set's index, right-aligned in 3; a blank; how many layers the set has, right-aligned in 2; a blank; 64
+/// places; and a line feed. Place i is `#` if layer i is in the set, `.` if it is not, and a blank from the number of layers on. A
+/// set has its output layers and all that they reach through direct references, over any number of steps.
+///
+/// On success the page stands at the beginning of `output`; what is behind it is as before. [`crate::MOST_PAGE_BYTES`] are enough for
+/// every page, and exactly as many bytes as it has. Refusals 31 and 32 can come out, 31 whatever the output's length, and leave
+/// `output` as it was.
+///
+/// ```
+/// use teglyovash::{layer_page, parse, Refusal};
+///
+/// let unit = [0x00, 0x71, 0x10, 0x00, 0x00, 0x03, 0x02, 0x33, 0x00, 0x00, 0x40];
+/// let mut record = [0; 38];
+/// parse(&unit, &mut [0; 8], &mut record)?;
+///
+/// let mut output = [0xff; 73];
+/// assert_eq!(layer_page(&record, &mut output), Ok(72));
+/// assert_eq!(output[..8], *b"  0  1 #");
+/// assert_eq!(output[8..71], [b' '; 63]);
+/// assert_eq!(output[71..], [b'\n', 0xff]);
+///
+/// let mut short = [0xff; 71];
+/// assert_eq!(layer_page(&record, &mut short), Err(Refusal::OutputTooShort));
+/// assert_eq!(short, [0xff; 71]);
+///
+/// // max_sublayers_minus1 is never 7
+/// record[2] = 7;
+/// assert_eq!(layer_page(&record, &mut short), Err(Refusal::NotWellFormed));
+/// # Ok::<(), Refusal>(())
+/// ```
+pub fn layer_page(record: &[u32], output: &mut [u8]) -> Result<usize, Refusal> {
+    told(archive::layer_page(record, output))
+}
+
 /// Removes stuffing from a NAL unit's payload, the bytes behind its header, and gives the RBSP's length.
 ///
 /// On success the RBSP stands at the beginning of `output`; what is behind it is as before. As many bytes as `source` has are

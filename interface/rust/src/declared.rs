@@ -26,6 +26,13 @@ unsafe extern "C" {
         start: *mut u64,
         count: *mut u64,
     ) -> u32;
+    pub(crate) fn vps_layer_page(
+        record: *const u32,
+        record_length: usize,
+        output: *mut u8,
+        output_length: usize,
+        length: *mut u64,
+    ) -> u32;
     pub(crate) fn vps_ebsp_to_rbsp(
         source: *const u8,
         source_length: usize,

@@ -1,5 +1,5 @@
-//! H.266 video parameter sets (VPS): a unit read into a record, a record written as a unit, a record's sections, byte stuffing, and
-//! refusals as sentences that can be read out.
+//! H.266 video parameter sets (VPS): a unit read into a record, a record written as a unit, a record's sections and layer page, byte
+//! stuffing, and refusals as sentences that can be read out.
 //!
 //! The work is done by proved code in the archive `libvps_c.a`: for all bytes, numbers and lengths each function does what is said
 //! here. This crate adds types, and no checks of its own. All buffers are the caller's, and nothing is allocated.
@@ -25,10 +25,12 @@
 mod archive;
 mod calls;
 mod declared;
+#[cfg(test)]
+mod page_tests;
 mod refusal;
 mod section;
 
-pub use calls::{ebsp_to_rbsp, parse, rbsp_to_ebsp, section, sentence, write, Parsed};
+pub use calls::{ebsp_to_rbsp, layer_page, parse, rbsp_to_ebsp, section, sentence, write, Parsed};
 pub use refusal::Refusal;
 pub use section::Section;
 
@@ -40,6 +42,9 @@ pub const MOST_RECORD_NUMBERS: usize = 535_855;
 
 /// The longest unit that is written, in bytes: an output of this length is long enough for every record.
 pub const MOST_UNIT_BYTES: usize = 98_304;
+
+/// 257 sets, a line of 72 bytes each: an output of this length is long enough for every layer page.
+pub const MOST_PAGE_BYTES: usize = 18_504;
 
 /// Three words of at most 15 bytes each and two blanks: an output of this length is long enough for every sentence.
 pub const MOST_SENTENCE_BYTES: usize = 47;

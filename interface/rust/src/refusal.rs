@@ -6,9 +6,9 @@ use crate::{archive, MOST_SENTENCE_BYTES};
 use std::error::Error;
 use std::{fmt, str};
 
-/// Why a unit was not read, a record not written, stuffing not added or removed, or a sentence not stored. Its text is its sentence,
-/// three words for place, field and fault, and nothing else. Below are place and condition of each; T is the number of output layer
-/// sets, and M that of those with more than one layer.
+/// Why a unit was not read, a record not written, a layer page not printed, stuffing not added or removed, or a sentence not stored.
+/// Its text is its sentence, three words for place, field and fault, and nothing else. Below are place and condition of each; T is the
+/// number of output layer sets, and M that of those with more than one layer.
 ///
 /// ```
 /// use teglyovash::Refusal;
@@ -82,9 +82,9 @@ pub enum Refusal {
         /// The length that the record needs, in numbers.
         needed: usize,
     },
-    /// 31, writer: not well formed.
+    /// 31, writer, layer page: not well formed.
     NotWellFormed,
-    /// 32, writer, adding and removing stuffing, sentences: output too short.
+    /// 32, writer, layer page, adding and removing stuffing, sentences: output too short.
     OutputTooShort,
 }
 
