@@ -74,7 +74,7 @@ module _ (r : List ℕ) (w : well_formed r ≡ true) where
   pub some_sets : 1 ≤ total_num_olss (get_or r 0 0) (sets_of r)
   some_sets = rw (sets_given r w) (some_given (get_or r 0 0) (get_or r 5 0) (get_or r 6 0) (from_section r 2) few_layers.0)
 
-  references_below : Below (refs_of r)
+  pub references_below : Below (refs_of r)
   references_below = record {
     short = λ k.
         let seen = (well_formed_viewed today r w).1.seen in

@@ -1,3 +1,4 @@
 pub mod Rows
 pub mod Sets
 pub mod Few
+pub mod Reached

@@ -38,11 +38,11 @@ module _ (r : List ℕ) (w : well_formed r ≡ true) where
   pub sets_given : sets_of r ≡ sets_in (get_or r 0 0) (get_or r 5 0) (get_or r 6 0) (from_section r 2)
   sets_given = (well_formed_viewed today r w).1.seen.sets_numbered
 
-  sets_each : (get_or r 5 0 ≡ 0 → ⊥) → sets_of r ≡ each_layer
+  pub sets_each : (get_or r 5 0 ≡ 0 → ⊥) → sets_of r ≡ each_layer
   unfolding sets_in
   sets_each e = sets_given ∙ rw (ne_eqb (get_or r 5 0) 0 e) refl
 
-  sets_up_to : get_or r 5 0 ≡ 0 → (get_or r 6 0 ≡ 2 → ⊥) → sets_of r ≡ up_to
+  pub sets_up_to : get_or r 5 0 ≡ 0 → (get_or r 6 0 ≡ 2 → ⊥) → sets_of r ≡ up_to
   unfolding sets_in
   sets_up_to e m = sets_given ∙ rw (eq-eqb (get_or r 5 0) 0 e, ne_eqb (get_or r 6 0) 2 m) refl
 
