@@ -1,6 +1,6 @@
 -- What is promised of the layer page of every well-formed record, by the page's bytes.
-use Rattle.std.specs.Prelude.{ℕ, suc, ◌+◌, ◌*◌, ◌<◌, ◌≤◌, ◌≡◌, ◌↔◌, List, [], Bool, true, false, ◌&&◌, cond, leb, ltb, eqb, length, get_or, take, drop, count_by}
-use Rattle.std.proofs.Common.{refl, sym, ap, ◌∙◌, arith, eqb-true, eq-eqb, lt-ltb, inl}
+use Rattle.std.specs.Prelude.{ℕ, suc, ◌+◌, ◌*◌, ◌<◌, ◌≤◌, ◌≡◌, ◌↔◌, List, [], Bool, true, false, ◌&&◌, leb, ltb, eqb, length, get_or, take, drop, count_by}
+use Rattle.std.proofs.Common.{sym, ap, ◌∙◌, arith, eqb-true, eq-eqb, lt-ltb, inl}
 use Rattle.vps_definition.specs.OutputLayerSets.{Sets, flagged, refers_by, in_set, total_num_olss, num_layers_in_ols}
 use Rattle.vps_definition.specs.Writing.{well_formed}
 use Rattle.vps_definition.specs.Layout.{from_section, rows_from}
@@ -9,7 +9,7 @@ use Rattle.vps_laws.specs.OutputLayerSets.{included_complete}
 use Rattle.record_sets.specs.Few.{few_layers, few_sets, some_sets, set_low, mode_two}
 use Rattle.record_sets.specs.Reached.{references_in}
 use Rattle.record_sets.specs.Sets.{sets_each, sets_up_to, sets_chosen}
-use Rattle.layer_page.specs.Page.{place, places, columns, page_of}
+use Rattle.layer_page.specs.Page.{place, columns, page_of}
 use Rattle.layer_page.specs.Places.{place_none, place_out}
 use Rattle.layer_page.specs.Lines.{marked, marks, columns_stand, places_stand, place_stands}
 use Rattle.layer_page.specs.Answers as Answers

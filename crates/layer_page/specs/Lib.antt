@@ -3,3 +3,4 @@ pub mod Places
 pub mod Lines
 pub mod Masks
 pub mod Answers
+pub mod Cases
