@@ -18,6 +18,7 @@ fn store_digits(n: u64, room: &mut [u8; MOST_DIGITS]) -> usize
 {
     let mut rest = n;
     let mut at = MOST_DIGITS - 1;
+    // As it is (3): a loop over a range of places would want an answer behind its end, which is never reached.
     while at > 0 && rest >= 10 {
         room[at] = b'0' + (rest % 10) as u8;
         rest /= 10;
