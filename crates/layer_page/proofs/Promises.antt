@@ -1,13 +1,13 @@
 -- What is promised of the layer page of every well-formed record, by the page's bytes.
-use Rattle.std.specs.Prelude.{ℕ, suc, ◌+◌, ◌*◌, ◌<◌, ◌≤◌, ◌≡◌, ◌↔◌, List, [], Bool, true, false, ◌&&◌, leb, ltb, eqb, length, get_or, take, drop, count_by}
+use Rattle.std.specs.Prelude.{ℕ, suc, ◌+◌, ◌*◌, ◌<◌, ◌≤◌, ◌≡◌, ◌↔◌, List, Bool, true, false, ◌&&◌, leb, ltb, eqb, length, get_or, take, drop, count_by}
 use Rattle.std.proofs.Common.{sym, ap, ◌∙◌, arith, eqb-true, eq-eqb, lt-ltb, inl}
 use Rattle.vps_definition.specs.OutputLayerSets.{Sets, flagged, refers_by, in_set, total_num_olss, num_layers_in_ols}
 use Rattle.vps_definition.specs.Writing.{well_formed}
-use Rattle.vps_definition.specs.Layout.{from_section, rows_from}
 use Rattle.vps_definition.specs.Views.{refs_of, sets_of, layer_in_set}
 use Rattle.vps_laws.specs.OutputLayerSets.{included_complete}
 use Rattle.record_sets.specs.Few.{few_layers, few_sets, some_sets, set_low, mode_two}
 use Rattle.record_sets.specs.Reached.{references_in}
+use Rattle.record_sets.specs.Rows.{row_of}
 use Rattle.record_sets.specs.Sets.{sets_each, sets_up_to, sets_chosen}
 use Rattle.layer_page.specs.Page.{place, columns, page_of}
 use Rattle.layer_page.specs.Places.{place_none, place_out}
@@ -85,9 +85,6 @@ module _ (r : List ℕ) (w : well_formed r ≡ true) where
 
   -- ── Rows of output layers ───────────────────────────────────────────
   module _ (each : get_or r 5 0 ≡ 0) (mode : get_or r 6 0 ≡ 2) where
-    abbrev pub rows : List (List ℕ)
-    rows = rows_from layers (get_or (from_section r 2) 0 0) (drop 1 (from_section r 2))
-
     -- set 0 is layer 0 alone
     pub first_is_layer_0 : (i : ℕ) → layer_in_set r 0 i ≡ eqb 0 i
     first_is_layer_0 = mode_two r w each mode
@@ -101,9 +98,9 @@ module _ (r : List ℕ) (w : well_formed r ≡ true) where
         )
 
     -- the output layers of row k are in set k + 1
-    pub output_layers_in : (k i : ℕ) → flagged (get_or rows k []) i ≡ true → layer_in_set r (suc k) i ≡ true
-    unfolding in_set
-    output_layers_in k i e = given (suc k) i (sets_chosen r w each mode) ∙ included_complete layers (refers_by (refs_of r)) (flagged (get_or rows k [])) i (inl e)
+    pub output_layers_in : (k i : ℕ) → flagged (row_of r k) i ≡ true → layer_in_set r (suc k) i ≡ true
+    unfolding in_set row_of
+    output_layers_in k i e = given (suc k) i (sets_chosen r w each mode) ∙ included_complete layers (refers_by (refs_of r)) (flagged (row_of r k)) i (inl e)
 
     -- and with a layer the layers to which it refers
     module _ (k : ℕ) (l : suc k < sets) where

@@ -1,14 +1,14 @@
 -- What a set of rows has, it has with all references: of a layer that is in it those to which the layer refers are in it, and so on.
-use Rattle.std.specs.Prelude.{ℕ, suc, ◌<◌, ◌≡◌, List, [], Bool, true, get_or, drop}
+use Rattle.std.specs.Prelude.{ℕ, suc, ◌<◌, ◌≡◌, List, Bool, true, get_or}
 use Rattle.std.proofs.Common.{sym, ap, ◌∙◌, inr, ⊎_elim}
 use Rattle.vps_definition.specs.OutputLayerSets.{Sets, Reaches, included, flagged, refers_by, in_set, total_num_olss}
 use Rattle.vps_definition.specs.OutputLayerSets.Reaches.{direct, through}
 use Rattle.vps_definition.specs.Writing.{well_formed}
-use Rattle.vps_definition.specs.Layout.{from_section, rows_from}
 use Rattle.vps_definition.specs.Views.{refs_of, sets_of, layer_in_set}
 use Rattle.vps_laws.specs.OutputLayerSets.{included_sound, included_complete}
 use Rattle.layer_sets.specs.References.{refers_below}
 use Rattle.record_sets.specs.Few.{set_low, references_below}
+use Rattle.record_sets.specs.Rows.{row_of}
 use Rattle.record_sets.specs.Sets.{sets_chosen}
 
 -- a reference more
@@ -26,10 +26,9 @@ included_on n d p below i j l e f =
 
 module _ (r : List ℕ) (w : well_formed r ≡ true) (each : get_or r 5 0 ≡ 0) (mode : get_or r 6 0 ≡ 2) where
   pub references_in : (k : ℕ) → suc k < total_num_olss (get_or r 0 0) (sets_of r) → (i j : ℕ) → layer_in_set r (suc k) i ≡ true → refers_by (refs_of r) i j ≡ true → layer_in_set r (suc k) j ≡ true
-  unfolding layer_in_set in_set
+  unfolding layer_in_set in_set row_of
   references_in k l i j e f =
-      let row : List ℕ = get_or (rows_from (get_or r 0 0) (get_or (from_section r 2) 0 0) (drop 1 (from_section r 2))) k [] in
-      let given : (m : ℕ) → in_set (get_or r 0 0) (refs_of r) (sets_of r) (suc k) m ≡ included (get_or r 0 0) (refers_by (refs_of r)) (flagged row) m =
+      let given : (m : ℕ) → in_set (get_or r 0 0) (refs_of r) (sets_of r) (suc k) m ≡ included (get_or r 0 0) (refers_by (refs_of r)) (flagged (row_of r k)) m =
       λ m. ap (λ (s : Sets). in_set (get_or r 0 0) (refs_of r) s (suc k) m) (sets_chosen r w each mode) in
       given j
-      ∙ included_on (get_or r 0 0) (refers_by (refs_of r)) (flagged row) (refers_below (references_below r w)) i j (set_low r w (suc k) l i e) (sym (given i) ∙ e) f
+      ∙ included_on (get_or r 0 0) (refers_by (refs_of r)) (flagged (row_of r k)) (refers_below (references_below r w)) i j (set_low r w (suc k) l i e) (sym (given i) ∙ e) f

@@ -13,6 +13,7 @@ pub mod Indices
 pub mod Keeps
 pub mod Laid
 pub mod LongerExtension
+pub mod Longest
 pub mod Lookup
 pub mod Order
 pub mod OrderThen

@@ -34,4 +34,5 @@ pub mod BeforeCases
 pub mod Codes
 pub mod Says
 pub mod Order
+pub mod Longest
 pub mod Lookup

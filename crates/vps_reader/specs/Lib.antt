@@ -4,3 +4,4 @@ pub mod Measures
 pub mod Filled
 pub mod Answers
 pub mod Units
+pub mod Rooms

@@ -1,3 +1,2 @@
 pub mod Why
-pub mod Long
 pub mod Cases

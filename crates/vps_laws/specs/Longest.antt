@@ -1,4 +1,4 @@
--- A unit that is longer than every accepted one has the answer of its beginning.
+-- No unit of so many bytes is accepted, whatever stands in them.
 use Rattle.std.specs.Prelude.{ℕ, ◌+◌, ◌≤◌, ◌<◌, ◌≡◌, refl, List, length}
 use Rattle.std.proofs.Common.{arith}
 use Rattle.std.proofs.lemmas.Bool.{lt-leb}
