@@ -20,6 +20,10 @@ pub page_length : (r : List ℕ) → well_formed r ≡ true → length (page_of 
 unfolding page_of
 page_length r w = lines_length (get_or r 0 0) (few_layers r w).1 (refs_of r) (sets_of r) (total_num_olss (get_or r 0 0) (sets_of r)) (omega (arith, few_sets r w))
 
+-- at the most 257 lines
+pub page_most : (r : List ℕ) → well_formed r ≡ true → length (page_of r) ≤ 18504
+page_most r w = omega (arith, page_length r w, few_sets r w)
+
 -- an answer, and the output then
 pub record Says (r out : List ℕ) (answer : Answer ℕ) (out' : List ℕ) : Type 0 where
   pub answered : answer ≡ write_of out (layer_page r)

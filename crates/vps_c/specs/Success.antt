@@ -5,7 +5,7 @@ use Rattle.std.proofs.lemmas.Bool.{false≢true}
 use Rattle.std.proofs.Common.{inl, inr, arith, leb-true}
 use Rattle.refusals.specs.Answer.{Answer}
 use Rattle.refusals.specs.Answer.Answer.{success, refusal}
-use Rattle.refusals.specs.Number.{unit_too_short, work_too_short, sublayers_reserved, timing_index, stop_bit_missing, alignment_bit_one, record_too_short, output_too_short}
+use Rattle.refusals.specs.Number.{unit_too_short, work_too_short, sublayers_reserved, timing_index, stop_bit_missing, alignment_bit_one, record_too_short, not_well_formed, output_too_short}
 use Rattle.refusals.specs.Lent.{lent}
 use Rattle.stuffing.specs.Stuffing.{unstuff}
 use Rattle.sentences.specs.Sentences.{table, last_number}
@@ -13,10 +13,11 @@ use Rattle.sentences.specs.Laws.{InTable}
 use Rattle.vps_definition.specs.Rules.{today}
 use Rattle.vps_definition.specs.Reading.{Reading, read_rbsp, most_rbsp_bytes, vps_nut}
 use Rattle.vps_definition.specs.Reading.Reading.{accepts, refuses}
-use Rattle.vps_definition.specs.Writing.{write_record}
+use Rattle.vps_definition.specs.Writing.{write_record, well_formed}
 use Rattle.vps_reader.specs.Parse.{Parse, parse_number, Parsed, parse_of, parse_rbsp, parse_payload, parse_unit}
 use Rattle.vps_reader.specs.Parse.Parse.{accepted, too_short, refused}
 use Rattle.vps_writer.specs.Write.{write_of}
+use Rattle.layer_page.specs.Page.{page_of, layer_page}
 use Rattle.vps_laws.specs.Records.{of_record}
 use Rattle.vps_laws.specs.Says.{Said, Among, TableSaid, ReadingSays}
 use Rattle.vps_laws.proofs.Says.{rbsp_says}
@@ -99,7 +100,7 @@ parse_worded unit work lent = go (parse_unit unit work lent).answer (parse_other
     go (too_short needed) h = inr (record { first = omega arith; last = omega arith })
     go (refused k) h = inr h.is.worded
 
--- ── The writer, the stuffing and the sentences ────────────────────────
+-- ── The writer, the layer page, the stuffing and the sentences ────────
 -- a refusal is 31 or more, and has a sentence
 abbrev Late : {A : Type 0} → Answer A → Type 0
 Late (success a) = Unit {0}
@@ -117,13 +118,19 @@ record_late : (r : List ℕ) → Late (write_record r)
 unfolding last_number table
 record_late r = of_record today Late (omega arith, omega arith) (λ rbsp l. tt) r
 
-write_late : (out r : List ℕ) → Late (write_of out (write_record r))
-unfolding write_of
-write_late out r = go (write_record r) (record_late r)
+page_late : (r : List ℕ) → Late (layer_page r)
+unfolding layer_page last_number table
+page_late r = go (well_formed r)
   where
-    go : (x : Answer (List ℕ)) → Late x → Late (write_of out x)
-    go (success b) h = lent_late b out
-    go (refusal k) h = h
+    go : (b : Bool) → Late (cond b (success (page_of r)) (refusal not_well_formed))
+    go true = tt
+    go false = (omega arith, omega arith)
+
+-- and so it is once they are put into an output
+write_late : (out : List ℕ) (x : Answer (List ℕ)) → Late x → Late (write_of out x)
+unfolding write_of
+write_late out (success b) h = lent_late b out
+write_late out (refusal k) h = h
 
 late_zero : (x : Answer ℕ) → Late x → (answer_number x ≡ 0) ↔ ((n : ℕ) × (x ≡ success n))
 late_zero (success n) h = (λ e. (n, refl), λ e. refl)
@@ -134,10 +141,16 @@ late_worded (success n) h = inl refl
 late_worded (refusal k) h = inr (record { first = omega (arith, h.0); last = h.1 })
 
 pub write_zero : (out r : List ℕ) → (answer_number (write_of out (write_record r)) ≡ 0) ↔ ((n : ℕ) × (write_of out (write_record r) ≡ success n))
-write_zero out r = late_zero (write_of out (write_record r)) (write_late out r)
+write_zero out r = late_zero (write_of out (write_record r)) (write_late out (write_record r) (record_late r))
 
 pub write_worded : (out r : List ℕ) → (answer_number (write_of out (write_record r)) ≡ 0) ⊎ InTable (answer_number (write_of out (write_record r)))
-write_worded out r = late_worded (write_of out (write_record r)) (write_late out r)
+write_worded out r = late_worded (write_of out (write_record r)) (write_late out (write_record r) (record_late r))
+
+pub page_zero : (out r : List ℕ) → (answer_number (write_of out (layer_page r)) ≡ 0) ↔ ((n : ℕ) × (write_of out (layer_page r) ≡ success n))
+page_zero out r = late_zero (write_of out (layer_page r)) (write_late out (layer_page r) (page_late r))
+
+pub page_worded : (out r : List ℕ) → (answer_number (write_of out (layer_page r)) ≡ 0) ⊎ InTable (answer_number (write_of out (layer_page r)))
+page_worded out r = late_worded (write_of out (layer_page r)) (write_late out (layer_page r) (page_late r))
 
 -- of adding and removing and of sentences alike
 pub lent_zero : (s out : List ℕ) → (answer_number (lent s out) ≡ 0) ↔ ((n : ℕ) × (lent s out ≡ success n))

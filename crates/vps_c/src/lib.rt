@@ -1,5 +1,5 @@
-// Reading, writing, section lookup, byte stuffing and the sentences of refusals for C and other languages, by numbers and slices
-// alone: each function but the last gives 0, or a refusal's number, and stores what else it has to say where a reference points.
+// Reading, writing, section lookup, the layer page, byte stuffing and the sentences of refusals for C and other languages, by numbers
+// and slices alone: each function but the last gives 0, or a refusal's number, and stores what else it has to say where a reference points.
 #![tactic(auto)]
 
 ghost use Rattle.std.specs.Prelude.{◌≡◌, ◌+◌};
@@ -11,6 +11,7 @@ ghost use Rattle.vps_definition.specs.Writing.{write_record};
 ghost use Rattle.vps_definition.specs.Lookup.{section_start, section_end};
 ghost use Rattle.vps_reader.specs.Parse.{parse_unit};
 ghost use Rattle.vps_writer.specs.Write.{write_of, output_of};
+ghost use Rattle.layer_page.specs.Page.{layer_page};
 ghost use Rattle.vps_c.specs.Calls.{Parses, Tells};
 
 use refusals::Refusal;
@@ -77,6 +78,16 @@ pub extern "C" fn vps_section(record: &[u32], number: u32, start: &mut u64, coun
     *start = part.start as u64;
     *count = part.count as u64;
     0
+}
+
+// The layer page of a record, into a lent output: a line for each output layer set. Success stores its length; a refusal stores
+// nothing.
+#[unsafe(no_mangle)]
+pub extern "C" fn vps_layer_page(record: &[u32], output: &mut [u8], length: &mut u64) -> u32
+    ensures tells { Tells (write_of output.old (layer_page «record».now)) length.old result length.new }
+    ensures output_after { output.new ≡ output_of output.old (layer_page «record».now) }
+{
+    tell(layer_page::layer_page(record, output), length)
 }
 
 // The stuffing of a payload removed, into a lent output. Success stores the length of what is left; a refusal stores nothing.
