@@ -1,0 +1,4 @@
+pub mod Printed
+pub mod Room
+pub mod Reads
+pub mod Cases
