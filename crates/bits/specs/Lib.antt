@@ -6,6 +6,7 @@ pub mod Writing
 pub mod FieldLaws
 pub mod RestLaws
 pub mod OneLaws
+pub mod LastOne
 pub mod CodeLaws
 pub mod ByteLaws
 pub mod WriteLaws

@@ -1,12 +1,14 @@
 -- One turn of each loop, room, and a lent output, on plain lists and numbers.
 use Prim.Native.Nat.{ℕ, ◌+◌, ◌*◌, ◌-◌, ◌/◌, ◌≤◌, ◌<◌}
 use mathlib.Core.List.{List, [], ◌∷◌, ◌++◌}
-use mathlib.Core.Bool.{Bool, true, false, cond, ◌&&◌}
+use mathlib.Core.Bool.{Bool, true, false, cond, not, ◌&&◌}
 use mathlib.Core.Path.{◌≡◌, refl, sym, ap, ◌∙◌}
 use native.Mathlib.Omega.{arith}
 use native.Mathlib.Numerals.{add-one}
 use lib.Dec.{leb, ltb, eqb}
-use borrow.Author.Tests.{le-leb, lt-leb, leb-true, ne_eqb}
+use mir.Val.{bool_byte}
+use borrow.Author.Tests.{le-leb, lt-leb, leb-true, eqb-true, ne_eqb}
+use Rattle.std.proofs.lemmas.Bool.{false≢true}
 use lib.ListN.{length, get_or, drop, set, length-append, length-set, drop_of_length-le}
 use lib.Seq.{set-set, sets-eq, sets, drop-cons}
 use Rattle.refusals.specs.Answer.Answer.{success, refusal}
@@ -20,6 +22,10 @@ use Rattle.stuffing.specs.Machine.{dropped, zeros_in, more_in, unstuff_behind, u
 pub and_false : (t : Bool) → (t && false) ≡ false
 and_false true = refl
 and_false false = refl
+
+and_second : (t u : Bool) → (t && u) ≡ true → u ≡ true
+and_second true u e = e
+and_second false u e = absurd (false≢true e)
 
 -- a byte more: the zeros are counted by the two last ones
 zeros_after : (a b c : ℕ) → zeros_in b c ≡ zeros_behind (zeros_in a b) c
@@ -88,6 +94,21 @@ module _ {s o₀ o : List ℕ} {i n : ℕ} (a b : ℕ) (l : Removing s o₀ o i 
 
   pub removing_room : dropped (zeros_in a b) (get_or s i 0) ≡ false → length (unstuff s) ≤ length o₀ → n < length o
   removing_room test room = omega (arith, written_room l.written room, ap length (removing_next test))
+
+-- bytes that are counted and not stored, without a branch
+module _ {s : List ℕ} {i n : ℕ} (a b : ℕ) (l : Removing s [] [] i n (zeros_in a b)) (h : i < length s) where
+  pub removing_counted : {k : Bool} {m : ℕ} → k ≡ dropped (zeros_in a b) (get_or s i 0) → m ≡ bool_byte (not k) → Removing s [] [] (i + 1) (n + m) (zeros_in b (get_or s i 0))
+  removing_counted {k} {m} test one = go k test one
+    where
+      go : (k : Bool) → k ≡ dropped (zeros_in a b) (get_or s i 0) → m ≡ bool_byte (not k) → Removing s [] [] (i + 1) (n + m) (zeros_in b (get_or s i 0))
+      go true t e =
+          let none : m ≡ 0 = e in
+          let same : n + m ≡ n = omega arith in
+          let three : get_or s i 0 ≡ 3 = eqb-true (get_or s i 0) 3 (and_second (leb 2 (zeros_in a b)) (eqb (get_or s i 0) 3) (sym t)) in
+          rw (same, three) (removing_drop a b l h (sym t))
+      go false t e =
+          let one : m ≡ 1 = e in
+          rw one (removing_keep a b l h (sym t) refl)
 
 pub removing_done : {s o₀ o : List ℕ} {i n z : ℕ} → Removing s o₀ o i n z → length s ≤ i
     → record { counted : n ≡ length (unstuff s); stored : o ≡ sets o₀ 0 (unstuff s) }

@@ -38,11 +38,25 @@ fn is_dropped(before: u8, last: u8, b: u8) -> bool
     before == 0 && last == 0 && b == 3
 }
 
-// Counts what removing leaves, and stores it where STORES says so: it then has room, and no byte is tested for it.
-fn remove<const STORES: bool>(ebsp: &[u8], out: &mut [u8]) -> usize
-    requires { IsTrue STORES → length (unstuff ebsp.now) ≤ length out.old }
+// The length of what removing leaves: no step depends on a byte, so that zeros take no longer than others.
+pub fn rbsp_length(ebsp: &[u8]) -> usize
+    ensures { result ≡ length (unstuff ebsp.now) }
+{
+    let mut n = 0;
+    let mut before = 1;
+    let mut last = 1;
+    for &b in ebsp {
+        n += usize::from(!is_dropped(before, last, b));
+        (before, last) = (last, b);
+    }
+    n
+}
+
+// Stores what removing leaves, and counts it. It has room, and no byte is tested for it.
+fn remove(ebsp: &[u8], out: &mut [u8]) -> usize
+    requires { length (unstuff ebsp.now) ≤ length out.old }
     ensures counted { result ≡ length (unstuff ebsp.now) }
-    ensures stored { IsTrue STORES → out.new ≡ sets out.old 0 (unstuff ebsp.now) }
+    ensures stored { out.new ≡ sets out.old 0 (unstuff ebsp.now) }
 {
     let mut n = 0;
     let mut before = 1;
@@ -52,21 +66,12 @@ fn remove<const STORES: bool>(ebsp: &[u8], out: &mut [u8]) -> usize
             last = 3;
             continue;
         }
-        if STORES {
-            out[n] = b;
-        }
+        out[n] = b;
         n += 1;
         before = last;
         last = b;
     }
     n
-}
-
-// The length of what removing leaves.
-pub fn rbsp_length(ebsp: &[u8]) -> usize
-    ensures { result ≡ length (unstuff ebsp.now) }
-{
-    remove::<false>(ebsp, &mut [])
 }
 
 // Whether what removing leaves has room.
@@ -85,7 +90,7 @@ pub fn ebsp_to_rbsp(ebsp: &[u8], rbsp: &mut [u8]) -> Result<usize, Refusal>
     ensures left { rbsp.new ≡ output_after (unstuff ebsp.now) rbsp.old }
 {
     if has_room_removed(ebsp, rbsp) {
-        Ok(remove::<true>(ebsp, rbsp))
+        Ok(remove(ebsp, rbsp))
     } else {
         Err(Refusal::OutputTooShort)
     }
@@ -99,8 +104,8 @@ fn more_before(before: usize, last: usize) -> usize
     usize::from(before == 0 && last == 0)
 }
 
-// Counts what adding makes, and stores it where STORES says so, in the same way. Before a byte up to 03 a 03 is stored; the byte
-// takes its place, or the next one.
+// Counts what adding makes, and stores it where STORES says so: it then has room, and no byte is tested for it. Before a byte up
+// to 03 a 03 is stored; the byte takes its place, or the next one.
 fn add<const STORES: bool>(rbsp: &[u8], out: &mut [u8]) -> usize
     requires { IsTrue STORES → length (stuff rbsp.now) ≤ length out.old }
     ensures counted { result ≡ length (stuff rbsp.now) }
