@@ -4,13 +4,9 @@ use Rattle.std.proofs.Common.{sym, ap, ◌∙◌, zero-add, append_assoc, arith,
 use Rattle.std.proofs.lemmas.List.{drop-drop}
 use Rattle.std.proofs.lemmas.List.Edits.{sets, sets-eq}
 use Rattle.std.proofs.Math.Seq.{length-sets}
-use Rattle.lists.specs.Stored.{sets_append}
+use Rattle.lists.specs.Stored.{stored_behind}
 use Rattle.vps_definition.specs.Syntax.{Token, numbers, starts}
 use Rattle.vps_definition.specs.Record.{body_of, record_of}
-
--- one list behind another
-pub stored_behind : (lent : List ℕ) (x y : List ℕ) {n : ℕ} → n ≡ length x → sets (sets lent 0 x) n y ≡ sets lent 0 (x ++ y)
-stored_behind lent x y {n} e = ap (λ (k : ℕ). sets (sets lent 0 x) k y) (e ∙ sym (zero-add (length x))) ∙ sym (sets_append lent 0 x y)
 
 -- General, the table's numbers, the extension with its count, the starts, and the total length
 module _ (lent g : List ℕ) (t : List Token) (e : List ℕ) (nine : length g ≡ 9) where
@@ -46,25 +42,3 @@ module _ (lent g : List ℕ) (t : List Token) (e : List ℕ) (nine : length g �
       ∙ ap (λ (r : List ℕ). set r total_at (starts_from + 8)) (stored_behind lent x₃ (starts 9 t) l₃)
       ∙ stored_behind lent x₄ ((starts_from + 8) ∷ []) l₄
       ∙ ap (sets lent 0) (λ i. (q i ++ starts 9 t) ++ (v i ∷ []))
-
--- ── A part of a list ──────────────────────────────────────────────────
--- the numbers from one place to another
-abbrev pub part : List ℕ → ℕ → ℕ → List ℕ
-part l i end = take (end - i) (drop i l)
-
--- what was stored from a place on is the part there
-pub part_stored : (lent l : List ℕ) (i end : ℕ) (x : List ℕ) → l ≡ sets lent i x → end ≡ i + length x → end ≤ length l → part l i end ≡ x
-part_stored lent l i end x e f h =
-    let m : i + length x ≤ length lent = omega (arith, ap length e, length-sets lent i x) in
-    let k : end - i ≡ length x = omega arith in
-    let w : l ≡ take i lent ++ (x ++ drop (i + length x) lent) = e ∙ sets-eq x lent i m ∙ append_assoc (take i lent) x (drop (i + length x) lent) in
-    ap (λ (n : ℕ). take n (drop i l)) k ∙ ap (λ (a : List ℕ). take (length x) (drop i a)) w
-    ∙ ap (take (length x)) (drop_at (take i lent) (x ++ drop (i + length x) lent) i (length-take-le i lent (omega arith)))
-    ∙ take_at x (drop (i + length x) lent) (length x) refl
-
--- a part that is written anew
-pub written_part : (l x : List ℕ) (i : ℕ) {k : ℕ} → length x ≡ k → i + k ≤ length l → take i l ++ (x ++ drop k (drop i l)) ≡ sets l i x
-written_part l x i e m =
-    (λ j. take i l ++ (x ++ drop (sym e j) (drop i l)))
-    ∙ ap (λ (y : List ℕ). take i l ++ (x ++ y)) (drop-drop (length x) i l)
-    ∙ sym (sets-eq x l i (omega arith) ∙ append_assoc (take i l) x (drop (i + length x) l))

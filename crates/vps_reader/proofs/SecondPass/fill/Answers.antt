@@ -7,7 +7,7 @@ use Rattle.std.proofs.Math.Seq.{length-sets}
 use Rattle.std.proofs.Math.ListN.{length-set}
 use Rattle.vps_laws.specs.Extension.{bits_at_length}
 use Rattle.vps_reader.specs.Measures.{nine, found_inside, found_most, found_starts}
-use Rattle.vps_reader.specs.Stored.{written_part}
+use Rattle.lists.specs.Stored.{written_part}
 use Rattle.vps_reader.specs.Filled.{trailer_stored, extension_stored, filled}
 use Rattle.vps_reader.proofs.SecondPass.fill.Goals as goal
 

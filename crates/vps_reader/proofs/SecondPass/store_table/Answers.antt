@@ -2,7 +2,7 @@
 use Rattle.std.proofs.Common.{ap, ◌∙◌, arith, length}
 use Rattle.std.proofs.lemmas.List.Edits.{sets}
 use Rattle.vps_definition.specs.Syntax.{numbers}
-use Rattle.vps_reader.specs.Stored.{part_stored, written_part}
+use Rattle.lists.specs.Stored.{part_stored, written_part}
 use Rattle.vps_reader.proofs.SecondPass.store_table.Goals as goal
 
 pub returns-in-Some : goal.returns-in-Some
