@@ -1,30 +1,55 @@
-// Finds and stores the extension's bits, which more_rbsp_data() bounds.
+// An RBSP's extension: the bits before the last one-bit, whose place is sought once, and storing them.
 #![tactic(auto)]
 
-ghost use Rattle.std.specs.Prelude.{◌≡◌, ◌+◌, ◌*◌, ◌-◌, ◌^◌, ◌≤◌, ◌<◌, length};
-ghost use Rattle.vps_definition.specs.Reading.{bits_at, data_bits, most_rbsp_bytes};
+ghost use Rattle.std.specs.Prelude.{◌≡◌, ◌+◌, ◌%◌, ◌^◌, ◌<◌, length};
+ghost use Rattle.bits.specs.Bits.{bits_of};
+ghost use Rattle.vps_definition.specs.Reading.{bits_at};
 
-use bit_fields::bit_at;
+mod rbsp;
+
+use bit_fields::{bit_at, field_at};
 use bit_reader::BitReader;
-use record_parts::Record;
+pub use rbsp::Rbsp;
 
-// How many bits are read from a reader's place on while more_rbsp_data(): those before the last one-bit, sought from the end.
-pub fn data_bits(reader: &BitReader<'_>) -> usize
-    ensures { length reader.now.bytes.now ≤ most_rbsp_bytes → result ≡ data_bits reader.now.bytes.now reader.now.bit_pos (8 * length reader.now.bytes.now - reader.now.bit_pos) }
+// The bits of a byte, its highest first.
+fn bits_of(byte: u32) -> [u32; 8]
+    ensures { result ≡ bits_of 8 byte }
 {
-    let BitReader { bytes, bit_pos } = *reader;
-    if Record::MOST_RBSP_BYTES < bytes.len() {
-        return 0;
+    [
+        byte / 128 % 2,
+        byte / 64 % 2,
+        byte / 32 % 2,
+        byte / 16 % 2,
+        byte / 8 % 2,
+        byte / 4 % 2,
+        byte / 2 % 2,
+        byte % 2,
+    ]
+}
+
+// Stores the bits from a place on, eight of a byte at a time.
+fn store_eights(bytes: &[u8], at: usize, numbers: &mut [u32])
+    requires { (at + length numbers.old < 2 ^ 64) × (length numbers.old % 8 ≡ 0) }
+    ensures { numbers.new ≡ bits_at bytes.now at (length numbers.old) }
+{
+    for j in 0..numbers.len() / 8 {
+        let byte = field_at(bytes, at + 8 * j, 8);
+        numbers[8 * j..8 * j + 8].copy_from_slice(&bits_of(byte));
     }
-    let mut places = (bit_pos..8 * bytes.len()).rev();
-    match places.find(|at| bit_at(bytes, *at) == 1) {
-        Some(last_one) => last_one - bit_pos,
-        None => 0,
+}
+
+// Stores the bits from a place on, one at a time.
+// As it is (3): tried `(at..).zip(numbers)`; behind such a loop nothing is known of the numbers that it was lent.
+fn store_each(bytes: &[u8], at: usize, numbers: &mut [u32])
+    requires { at + length numbers.old < 2 ^ 64 }
+    ensures { numbers.new ≡ bits_at bytes.now at (length numbers.old) }
+{
+    for (j, number) in numbers.iter_mut().enumerate() {
+        *number = bit_at(bytes, at + j);
     }
 }
 
 // Stores as many bits as there are places, from a reader's place on.
-// As it is (3): tried `(bit_pos..).zip(numbers)`; behind such a loop nothing is known of the numbers that it was lent.
 pub fn store_bits(reader: &BitReader<'_>, numbers: &mut [u32])
     ensures { reader.now.bit_pos + length numbers.old < 2 ^ 64 → numbers.new ≡ bits_at reader.now.bytes.now reader.now.bit_pos (length numbers.old) }
 {
@@ -32,7 +57,8 @@ pub fn store_bits(reader: &BitReader<'_>, numbers: &mut [u32])
     if usize::MAX - bit_pos < numbers.len() {
         return;
     }
-    for (j, number) in numbers.iter_mut().enumerate() {
-        *number = bit_at(bytes, bit_pos + j);
-    }
+    let whole = numbers.len() / 8 * 8;
+    let (eights, rest) = numbers.split_at_mut(whole);
+    store_eights(bytes, bit_pos, eights);
+    store_each(bytes, bit_pos + whole, rest);
 }

@@ -9,8 +9,8 @@ use Rattle.lists.specs.Stored.{overlaid}
 use Rattle.stuffing.specs.Stuffing.{unstuff}
 use Rattle.vps_definition.specs.Reading.{Reading, read_rbsp, read_unit, most_rbsp_bytes, limited_by, vps_nut, unit_by}
 use Rattle.vps_definition.specs.Reading.Reading.{accepts, refuses}
-use Rattle.vps_reader.specs.Parse.{Parse, Parsed, untouched, parse_of, record_after, parse_rbsp, parse_payload, parse_unit}
-use Rattle.vps_reader.specs.Parse.Parse.{accepted, too_short, refused}
+use Rattle.vps_reader.specs.Parse.{Parsed, untouched, parse_of, record_after, parse_rbsp, parse_payload, parse_unit}
+use Rattle.vps_reader.specs.Parse.Parse.{accepted, too_short}
 use Rattle.vps_reader.specs.Answers.{parsed_answer, refusal_of}
 use Rattle.vps_reader.specs.declared.parsed.NotParsed.{NotParsed}
 use Rattle.vps_reader.specs.declared.parsed.NotParsed.TheVariants.{RecordTooShort, Refused}

@@ -17,6 +17,7 @@ mod parsed;
 
 use bit_reader::BitReader;
 pub use parsed::{NotParsed, Parsed};
+use read_extension::Rbsp;
 use read_vps::Table;
 use record_parts::Record;
 use refusals::Refusal;
@@ -29,14 +30,14 @@ struct Measured {
     bits: usize,
 }
 
-// How many extension bits stand behind the flag.
-fn extension_bits(reader: &BitReader<'_>, flag: u32) -> usize
-    ensures { length reader.now.bytes.now ≤ most_rbsp_bytes → result ≡ extension_bits flag reader.now.bytes.now reader.now.bit_pos }
+// How many extension bits stand from a place on, behind the flag: while it is 1 and further data remain.
+fn extension_bits(rbsp: &Rbsp<'_>, at: usize, flag: u32) -> usize
+    ensures { result ≡ extension_bits flag rbsp.now.bytes.now at }
 {
     if flag == 0 {
         return 0;
     }
-    read_extension::data_bits(reader)
+    rbsp.data_bits(at)
 }
 
 // The trailing bits at a reader's place: the bits used then.
@@ -49,20 +50,16 @@ fn read_end(reader: &BitReader<'_>) -> Result<usize, Refusal>
 }
 
 // The first pass: the table's numbers are stored in another list, as far as it reaches.
-fn measure(bytes: &[u8], small: &mut [u32]) -> Result<Measured, Refusal>
-    ensures { Measures bytes.now small.old small.new result }
+fn measure(rbsp: &Rbsp<'_>, small: &mut [u32]) -> Result<Measured, Refusal>
+    ensures { Measures rbsp.now.bytes.now small.old small.new result }
 {
-    if Parsed::MOST_RBSP_BYTES < bytes.len() {
-        return Err(Refusal::RbspTooLong);
-    }
-    let table = read_vps::read_vps(bytes, small)?;
-    let mut reader = BitReader {
-        bytes,
-        bit_pos: table.at,
+    let table = read_vps::read_vps(rbsp.bytes, small)?;
+    let count = extension_bits(rbsp, table.at, table.whole.extension_flag());
+    let end = BitReader {
+        bytes: rbsp.bytes,
+        bit_pos: table.at + count,
     };
-    let count = extension_bits(&reader, table.whole.extension_flag());
-    reader.bit_pos += count;
-    let bits = read_end(&reader)?;
+    let bits = read_end(&end)?;
     Ok(Measured { table, count, bits })
 }
 
@@ -154,10 +151,15 @@ impl SecondPass<'_> {
 }
 
 // An RBSP, into a lent record, by way of another list, which keeps the table of a small one.
-fn parse_by_way_of(bytes: &[u8], small: &mut [u32], record: &mut [u32]) -> Result<Parsed, NotParsed>
-    ensures { Answers «record».old (read_limited bytes.now) result «record».new }
+fn parse_by_way_of(
+    rbsp: &Rbsp<'_>,
+    small: &mut [u32],
+    record: &mut [u32],
+) -> Result<Parsed, NotParsed>
+    ensures { Answers «record».old (read_limited rbsp.now.bytes.now) result «record».new }
 {
-    let m = measure(bytes, small)?;
+    let m = measure(rbsp, small)?;
+    let bytes = rbsp.bytes;
     SecondPass { bytes, small, m }.fill_where_room(record)
 }
 
@@ -165,8 +167,9 @@ fn parse_by_way_of(bytes: &[u8], small: &mut [u32], record: &mut [u32]) -> Resul
 pub fn parse_rbsp(bytes: &[u8], record: &mut [u32]) -> Result<Parsed, NotParsed>
     ensures { Answers «record».old (read_limited bytes.now) result «record».new }
 {
+    let rbsp = Rbsp::new(bytes)?;
     let mut small = [0u32; Parsed::SMALL_NUMBERS];
-    parse_by_way_of(bytes, &mut small, record)
+    parse_by_way_of(&rbsp, &mut small, record)
 }
 
 // Whether a payload's RBSP is too long: removing never lengthens, so a payload within the limit need not be measured.

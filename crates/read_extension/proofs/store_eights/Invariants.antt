@@ -1,0 +1,7 @@
+use Rattle.std.proofs.Common.{◌≡◌, ◌*◌}
+use Rattle.std.proofs.lemmas.List.Edits.{sets}
+use Rattle.vps_definition.specs.Reading.{bits_at}
+use Rattle.read_extension.proofs.store_eights.Given as goal
+
+abbrev pub invariant-loop-j : goal.invariant-loop-j
+invariant-loop-j l = l.numbers ≡ sets l.initial.numbers 0 (bits_at l.bytes l.at (8 * l.j))
