@@ -49,8 +49,8 @@ impl<'a> Rbsp<'a> {
     }
 
     // Whether further data remain at a place: it lies before the last one-bit.
-    pub fn more_data(&self, at: usize) -> bool
-        ensures { result ≡ more_data self.now.bytes.now at }
+    pub fn more_data(self, at: usize) -> bool
+        ensures { result ≡ more_data self.entry.bytes.now at }
     {
         match self.last_one {
             Some(last) => at < last,
@@ -59,8 +59,8 @@ impl<'a> Rbsp<'a> {
     }
 
     // How many bits are read from a place on while further data remain: those before the last one-bit.
-    pub fn data_bits(&self, at: usize) -> usize
-        ensures { result ≡ data_bits self.now.bytes.now at (8 * length self.now.bytes.now - at) }
+    pub fn data_bits(self, at: usize) -> usize
+        ensures { result ≡ data_bits self.entry.bytes.now at (8 * length self.entry.bytes.now - at) }
     {
         match self.last_one {
             Some(last) if self.more_data(at) => last - at,

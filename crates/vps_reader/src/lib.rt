@@ -31,8 +31,8 @@ struct Measured {
 }
 
 // How many extension bits stand from a place on, behind the flag: while it is 1 and further data remain.
-fn extension_bits(rbsp: &Rbsp<'_>, at: usize, flag: u32) -> usize
-    ensures { result ≡ extension_bits flag rbsp.now.bytes.now at }
+fn extension_bits(rbsp: Rbsp<'_>, at: usize, flag: u32) -> usize
+    ensures { result ≡ extension_bits flag rbsp.entry.bytes.now at }
 {
     if flag == 0 {
         return 0;
@@ -50,8 +50,8 @@ fn read_end(reader: &BitReader<'_>) -> Result<usize, Refusal>
 }
 
 // The first pass: the table's numbers are stored in another list, as far as it reaches.
-fn measure(rbsp: &Rbsp<'_>, small: &mut [u32]) -> Result<Measured, Refusal>
-    ensures { Measures rbsp.now.bytes.now small.old small.new result }
+fn measure(rbsp: Rbsp<'_>, small: &mut [u32]) -> Result<Measured, Refusal>
+    ensures { Measures rbsp.entry.bytes.now small.old small.new result }
 {
     let table = read_vps::read_vps(rbsp.bytes, small)?;
     let count = extension_bits(rbsp, table.at, table.whole.extension_flag());
@@ -152,11 +152,11 @@ impl SecondPass<'_> {
 
 // An RBSP, into a lent record, by way of another list, which keeps the table of a small one.
 fn parse_by_way_of(
-    rbsp: &Rbsp<'_>,
+    rbsp: Rbsp<'_>,
     small: &mut [u32],
     record: &mut [u32],
 ) -> Result<Parsed, NotParsed>
-    ensures { Answers «record».old (read_limited rbsp.now.bytes.now) result «record».new }
+    ensures { Answers «record».old (read_limited rbsp.entry.bytes.now) result «record».new }
 {
     let m = measure(rbsp, small)?;
     let bytes = rbsp.bytes;
@@ -169,7 +169,7 @@ pub fn parse_rbsp(bytes: &[u8], record: &mut [u32]) -> Result<Parsed, NotParsed>
 {
     let rbsp = Rbsp::new(bytes)?;
     let mut small = [0u32; Parsed::SMALL_NUMBERS];
-    parse_by_way_of(&rbsp, &mut small, record)
+    parse_by_way_of(rbsp, &mut small, record)
 }
 
 // Whether a payload's RBSP is too long: removing never lengthens, so a payload within the limit need not be measured.

@@ -8,7 +8,7 @@ use Rattle.vps_reader.proofs.parse_by_way_of.Goals as goal
 pub returns-in_err-m : goal.returns-in_err-m
 returns-in_err-m c =
     let p = err_from_is_err_and c.from_residual.result c.from_residual.ensures.1 in
-    rw (p.1 ∙ ap Err p.2) (answers_refused c.args.rbsp.now.bytes.now _ c.in_err-m.ensures)
+    rw (p.1 ∙ ap Err p.2) (answers_refused c.args.rbsp.bytes.now _ c.in_err-m.ensures)
 
 pub invariant_of-fill_where_room : goal.invariant_of-fill_where_room
 invariant_of-fill_where_room c = record { few_numbers = found_most c.in_ok-m.ensures.found }

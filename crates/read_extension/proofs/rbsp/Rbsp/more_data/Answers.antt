@@ -3,7 +3,7 @@ use Rattle.read_extension.proofs.Last.{more_by_place}
 use Rattle.read_extension.proofs.rbsp.Rbsp.more_data.Goals as goal
 
 pub returns-in-Some : goal.returns-in-Some
-returns-in-Some c = more_by_place _ c.args.self.now.last c.in-Some.is c.args.at
+returns-in-Some c = more_by_place _ c.args.self.last c.in-Some.is c.args.at
 
 pub returns-in-None : goal.returns-in-None
-returns-in-None c = more_by_place _ c.args.self.now.last c.in-None.is c.args.at
+returns-in-None c = more_by_place _ c.args.self.last c.in-None.is c.args.at
