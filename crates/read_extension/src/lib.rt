@@ -27,25 +27,27 @@ fn bits_of(byte: u32) -> [u32; 8]
     ]
 }
 
-// Stores the bits from a place on, eight of a byte at a time.
-fn store_eights(bytes: &[u8], at: usize, numbers: &mut [u32])
-    requires { (at + length numbers.old < 2 ^ 64) × (length numbers.old % 8 ≡ 0) }
-    ensures { numbers.new ≡ bits_at bytes.now at (length numbers.old) }
+// Stores the bits from a reader's place on, eight of a byte at a time.
+fn store_eights(reader: &BitReader<'_>, numbers: &mut [u32])
+    requires { (reader.now.bit_pos + length numbers.old < 2 ^ 64) × (length numbers.old % 8 ≡ 0) }
+    ensures { numbers.new ≡ bits_at reader.now.bytes.now reader.now.bit_pos (length numbers.old) }
 {
+    let BitReader { bytes, bit_pos } = *reader;
     for j in 0..numbers.len() / 8 {
-        let byte = field_at(bytes, at + 8 * j, 8);
+        let byte = field_at(bytes, bit_pos + 8 * j, 8);
         numbers[8 * j..8 * j + 8].copy_from_slice(&bits_of(byte));
     }
 }
 
-// Stores the bits from a place on, one at a time.
-// As it is (3): tried `(at..).zip(numbers)`; behind such a loop nothing is known of the numbers that it was lent.
-fn store_each(bytes: &[u8], at: usize, numbers: &mut [u32])
-    requires { at + length numbers.old < 2 ^ 64 }
-    ensures { numbers.new ≡ bits_at bytes.now at (length numbers.old) }
+// Stores the bits from a reader's place on, one at a time.
+// As it is (3): tried `(bit_pos..).zip(numbers)`; behind such a loop nothing is known of the numbers that it was lent.
+fn store_each(reader: &BitReader<'_>, numbers: &mut [u32])
+    requires { reader.now.bit_pos + length numbers.old < 2 ^ 64 }
+    ensures { numbers.new ≡ bits_at reader.now.bytes.now reader.now.bit_pos (length numbers.old) }
 {
+    let BitReader { bytes, bit_pos } = *reader;
     for (j, number) in numbers.iter_mut().enumerate() {
-        *number = bit_at(bytes, at + j);
+        *number = bit_at(bytes, bit_pos + j);
     }
 }
 
@@ -59,6 +61,10 @@ pub fn store_bits(reader: &BitReader<'_>, numbers: &mut [u32])
     }
     let whole = numbers.len() / 8 * 8;
     let (eights, rest) = numbers.split_at_mut(whole);
-    store_eights(bytes, bit_pos, eights);
-    store_each(bytes, bit_pos + whole, rest);
+    store_eights(reader, eights);
+    let behind = BitReader {
+        bytes,
+        bit_pos: bit_pos + whole,
+    };
+    store_each(&behind, rest);
 }

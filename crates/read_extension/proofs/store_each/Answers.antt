@@ -10,7 +10,7 @@ loop-j-init c = refl
 
 pub loop-j-preserved : goal.loop-j-preserved
 unfolding bits_at
-loop-j-preserved c = (λ k. set (c.loop-j.invariant k) c.loop-j.j (c.bit_at.ensures k)) ∙ stored_more c.args.numbers.now c.args.bytes.now c.args.at c.loop-j.j 1
+loop-j-preserved c = (λ k. set (c.loop-j.invariant k) c.loop-j.j (c.bit_at.ensures k)) ∙ stored_more c.args.numbers.now c.args.reader.now.bytes.now c.args.reader.now.bit_pos c.loop-j.j 1
 
 pub returns : goal.returns
 returns c = c.loop-j.invariant ∙ stored_all _ _ _ (omega (arith, c.loop-j-test.false))
