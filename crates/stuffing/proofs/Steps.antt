@@ -1,31 +1,26 @@
 -- One turn of each loop, room, and a lent output, on plain lists and numbers.
 use Prim.Native.Nat.{ℕ, ◌+◌, ◌*◌, ◌-◌, ◌/◌, ◌≤◌, ◌<◌}
 use mathlib.Core.List.{List, [], ◌∷◌, ◌++◌}
-use mathlib.Core.Bool.{Bool, true, false, cond, not, ◌&&◌}
+use mathlib.Core.Bool.{Bool, true, false, cond, ◌&&◌}
 use mathlib.Core.Path.{◌≡◌, refl, sym, ap, ◌∙◌}
 use native.Mathlib.Omega.{arith}
 use native.Mathlib.Numerals.{add-one}
 use lib.Dec.{leb, ltb, eqb}
-use mir.Val.{bool_byte}
-use borrow.Author.Tests.{le-leb, lt-leb, leb-true, eqb-true, ne_eqb}
-use Rattle.std.proofs.lemmas.Bool.{false≢true}
-use lib.ListN.{length, get_or, drop, set, length-append, length-set, drop_of_length-le}
+use borrow.Author.Tests.{le-leb, lt-leb, leb-true, ne_eqb}
+use lib.ListN.{length, get_or, take, drop, set, length-append, length-set, drop_of_length-le}
+use Rattle.std.proofs.lemmas.List.{take_all}
 use lib.Seq.{set-set, sets-eq, sets, drop-cons}
 use Rattle.refusals.specs.Answer.Answer.{success, refusal}
 use Rattle.refusals.specs.Number.{output_too_short}
 use Rattle.refusals.specs.Lent.{lent, output_after}
-use Rattle.stuffing.specs.Stuffing.{zeros_behind, unstuff, guarded, added, zeros_added, stuff_behind, stuff}
+use Rattle.stuffing.specs.Stuffing.{marked, zeros_behind, unstuff, guarded, added, zeros_added, stuff_behind, stuff}
 use Rattle.stuffing.specs.Laws.{stuff_length, stuff_longer, unstuff_length}
-use Rattle.stuffing.specs.Machine.{dropped, zeros_in, more_in, unstuff_behind, unstuff_machine}
+use Rattle.stuffing.specs.Machine.{scan_step, scan_byte, dropped, zeros_in, more_in, unstuff_behind, unstuff_machine}
 
 -- ── The last two bytes ────────────────────────────────────────────────
 pub and_false : (t : Bool) → (t && false) ≡ false
 and_false true = refl
 and_false false = refl
-
-and_second : (t u : Bool) → (t && u) ≡ true → u ≡ true
-and_second true u e = e
-and_second false u e = absurd (false≢true e)
 
 -- a byte more: the zeros are counted by the two last ones
 zeros_after : (a b c : ℕ) → zeros_in b c ≡ zeros_behind (zeros_in a b) c
@@ -70,6 +65,72 @@ written_all w = record { counted = omega (arith, w.total); stored = w.whole }
 written_room : {t o₀ rest o : List ℕ} {n : ℕ} → Written t o₀ rest o n → length t ≤ length o₀ → n + length rest ≤ length o
 written_room w room = omega (arith, w.long, w.total)
 
+-- ── Measuring ─────────────────────────────────────────────────────────
+-- three bytes are kept where the third isn't 0 and isn't dropped
+three_kept : (a b c : ℕ) (s : List ℕ) → marked a b c ≡ false → (c ≡ 0 → ⊥) → unstuff (a ∷ b ∷ c ∷ s) ≡ a ∷ b ∷ c ∷ unstuff s
+unfolding unstuff
+three_kept a b c s kept other = scan_step a b c s false kept ∙ ap (λ (l : List ℕ). a ∷ l) (two s)
+  where
+    none : eqb c 0 ≡ false
+    none = ne_eqb c 0 other
+
+    unmarked : (t u : Bool) → (t && eqb c 0 && u) ≡ false
+    unmarked true u = rw none refl
+    unmarked false u = refl
+
+    two : (s : List ℕ) → unstuff (b ∷ c ∷ s) ≡ b ∷ c ∷ unstuff s
+    two [] = refl
+    two (d ∷ s) = scan_step b c d s false (unmarked (eqb b 0) (eqb d 3)) ∙ ap (λ (l : List ℕ). b ∷ l) (scan_byte c (d ∷ s) none)
+
+-- the third of three is dropped by the two before it
+dropped_marked : (a b c : ℕ) → dropped (zeros_in a b) c ≡ marked a b c
+dropped_marked a b c = go (eqb a 0) (eqb b 0)
+  where
+    go : (t u : Bool) → (leb 2 (cond u (cond t 2 1) 0) && eqb c 3) ≡ (t && u && eqb c 3)
+    go true true = refl
+    go true false = refl
+    go false true = refl
+    go false false = refl
+
+-- n of the bytes before the rest are kept
+abbrev pub Measured : (s rest : List ℕ) (n : ℕ) → Type 0
+Measured s rest n = n + length (unstuff rest) ≡ length (unstuff s)
+
+-- the rest's first three bytes
+abbrev pub drops : List ℕ → Bool
+drops three = dropped (zeros_in (get_or three 0 0) (get_or three 1 0)) (get_or three 2 0)
+
+-- three bytes more, of which the third is dropped, or none
+pub measured_drop : (s rest : List ℕ) (n : ℕ) → Measured s rest n → 3 ≤ length rest → drops (take 3 rest) ≡ true → Measured s (drop 3 rest) (n + 2)
+measured_drop s [] n M l t = absurd (omega arith)
+measured_drop s (a ∷ []) n M l t = absurd (omega arith)
+measured_drop s (a ∷ b ∷ []) n M l t = absurd (omega arith)
+measured_drop s (a ∷ b ∷ c ∷ rest) n M l t = omega (arith, M, ap length (scan_step a b c rest true (sym (dropped_marked a b c) ∙ t)))
+
+pub measured_three : (s rest : List ℕ) (n : ℕ) → Measured s rest n → 3 ≤ length rest → drops (take 3 rest) ≡ false → (get_or (take 3 rest) 2 0 ≡ 0 → ⊥) → Measured s (drop 3 rest) (n + 3)
+measured_three s [] n M l t o = absurd (omega arith)
+measured_three s (a ∷ []) n M l t o = absurd (omega arith)
+measured_three s (a ∷ b ∷ []) n M l t o = absurd (omega arith)
+measured_three s (a ∷ b ∷ c ∷ rest) n M l t o = omega (arith, M, ap length (three_kept a b c rest (sym (dropped_marked a b c) ∙ t) o))
+
+-- or one
+pub measured_one : (s rest : List ℕ) (n : ℕ) → Measured s rest n → 3 ≤ length rest → drops (take 3 rest) ≡ false → Measured s (take (length rest - 1) (drop 1 rest)) (n + 1)
+measured_one s [] n M l t = absurd (omega arith)
+measured_one s (a ∷ []) n M l t = absurd (omega arith)
+measured_one s (a ∷ b ∷ []) n M l t = absurd (omega arith)
+measured_one s (a ∷ b ∷ c ∷ rest) n M l t = rw (take_all (length (a ∷ b ∷ c ∷ rest) - 1) (b ∷ c ∷ rest) (omega arith)) (omega (arith, M, ap length (scan_step a b c rest false (sym (dropped_marked a b c) ∙ t))))
+
+-- fewer than three are kept
+pub measured_end : (s rest : List ℕ) (n : ℕ) → Measured s rest n → length rest < 3 → n + length rest ≡ length (unstuff s)
+unfolding unstuff
+measured_end s [] n M l = M
+measured_end s (a ∷ []) n M l = M
+measured_end s (a ∷ b ∷ []) n M l = M
+measured_end s (a ∷ b ∷ c ∷ rest) n M l = absurd (omega arith)
+
+pub measured_few : (s rest : List ℕ) (n : ℕ) → Measured s rest n → n ≤ length s
+measured_few s rest n M = omega (arith, M, unstuff_length s)
+
 -- ── Removing ──────────────────────────────────────────────────────────
 -- before a turn: i bytes of s are read and end in z zeros, and n are stored
 pub record Removing (s o₀ o : List ℕ) (i n z : ℕ) : Type 0 where
@@ -94,21 +155,6 @@ module _ {s o₀ o : List ℕ} {i n : ℕ} (a b : ℕ) (l : Removing s o₀ o i 
 
   pub removing_room : dropped (zeros_in a b) (get_or s i 0) ≡ false → length (unstuff s) ≤ length o₀ → n < length o
   removing_room test room = omega (arith, written_room l.written room, ap length (removing_next test))
-
--- bytes that are counted and not stored, without a branch
-module _ {s : List ℕ} {i n : ℕ} (a b : ℕ) (l : Removing s [] [] i n (zeros_in a b)) (h : i < length s) where
-  pub removing_counted : {k : Bool} {m : ℕ} → k ≡ dropped (zeros_in a b) (get_or s i 0) → m ≡ bool_byte (not k) → Removing s [] [] (i + 1) (n + m) (zeros_in b (get_or s i 0))
-  removing_counted {k} {m} test one = go k test one
-    where
-      go : (k : Bool) → k ≡ dropped (zeros_in a b) (get_or s i 0) → m ≡ bool_byte (not k) → Removing s [] [] (i + 1) (n + m) (zeros_in b (get_or s i 0))
-      go true t e =
-          let none : m ≡ 0 = e in
-          let same : n + m ≡ n = omega arith in
-          let three : get_or s i 0 ≡ 3 = eqb-true (get_or s i 0) 3 (and_second (leb 2 (zeros_in a b)) (eqb (get_or s i 0) 3) (sym t)) in
-          rw (same, three) (removing_drop a b l h (sym t))
-      go false t e =
-          let one : m ≡ 1 = e in
-          rw one (removing_keep a b l h (sym t) refl)
 
 pub removing_done : {s o₀ o : List ℕ} {i n z : ℕ} → Removing s o₀ o i n z → length s ≤ i
     → record { counted : n ≡ length (unstuff s); stored : o ≡ sets o₀ 0 (unstuff s) }

@@ -35,13 +35,13 @@ zeros_read z [] = z
 zeros_read z (b ∷ s) = zeros_read (zeros_kept z b) s
 
 -- ── One step of the scan ──────────────────────────────────────────────
-scan_step : (a b c : ℕ) (s : List ℕ) (t : Bool) → marked a b c ≡ t
+pub scan_step : (a b c : ℕ) (s : List ℕ) (t : Bool) → marked a b c ≡ t
     → unstuff (a ∷ b ∷ c ∷ s) ≡ elim t [ true ↦ a ∷ b ∷ unstuff s | false ↦ a ∷ unstuff (b ∷ c ∷ s) ]
 unfolding unstuff
 scan_step a b c s t e = ap (λ (u : Bool). elim u [ true ↦ a ∷ b ∷ unstuff s | false ↦ a ∷ unstuff (b ∷ c ∷ s) ]) e
 
 -- a first byte other than 00 is kept
-scan_byte : (a : ℕ) (s : List ℕ) → eqb a 0 ≡ false → unstuff (a ∷ s) ≡ a ∷ unstuff s
+pub scan_byte : (a : ℕ) (s : List ℕ) → eqb a 0 ≡ false → unstuff (a ∷ s) ≡ a ∷ unstuff s
 unfolding unstuff
 scan_byte a [] e = refl
 scan_byte a (b ∷ []) e = refl

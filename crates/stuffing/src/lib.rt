@@ -27,9 +27,6 @@ pub fn is_guarded(zeros: u32, b: u8) -> bool
     zeros >= 2 && b <= 3
 }
 
-// The loops know the zeros behind them by two numbers, the byte last taken and the one before it. Where a 03 was dropped or
-// added it counts as one of them, and any number but 0 stands for a byte that is none.
-
 // Whether a byte behind two others is a 03 to be dropped.
 // As it is (2): adding asks for two zeros too, but of numbers that a 03 was counted into, and for 0 or 1 to add to its places.
 fn is_dropped(before: u8, last: u8, b: u8) -> bool
@@ -38,19 +35,30 @@ fn is_dropped(before: u8, last: u8, b: u8) -> bool
     before == 0 && last == 0 && b == 3
 }
 
-// The length of what removing leaves: no step depends on a byte, so that zeros take no longer than others.
+// The length of what removing leaves. Three bytes are passed at once where the third isn't 0: so stuffed zeros, whose every third
+// byte is a 03 to be dropped, take a step for three bytes.
 pub fn rbsp_length(ebsp: &[u8]) -> usize
     ensures { result ≡ length (unstuff ebsp.now) }
 {
     let mut n = 0;
-    let mut before = 1;
-    let mut last = 1;
-    for &b in ebsp {
-        n += usize::from(!is_dropped(before, last, b));
-        (before, last) = (last, b);
+    let mut rest = ebsp;
+    while let Some((three, behind)) = rest.split_first_chunk::<3>() {
+        if is_dropped(three[0], three[1], three[2]) {
+            n += 2;
+            rest = behind;
+        } else if three[2] != 0 {
+            n += 3;
+            rest = behind;
+        } else {
+            n += 1;
+            rest = &rest[1..];
+        }
     }
-    n
+    n + rest.len()
 }
+
+// The loops that store know the zeros behind them by two numbers, the byte last taken and the one before it. Where a 03 was dropped or
+// added it counts as one of them, and any number but 0 stands for a byte that is none.
 
 // Stores what removing leaves, and counts it. It has room, and no byte is tested for it.
 fn remove(ebsp: &[u8], out: &mut [u8]) -> usize

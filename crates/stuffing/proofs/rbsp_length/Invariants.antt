@@ -1,7 +1,9 @@
-use Rattle.std.specs.Prelude.{[]}
-use Rattle.stuffing.specs.Machine.{zeros_in}
-use Rattle.stuffing.proofs.Steps.{Removing}
+use Rattle.std.specs.Prelude.{length}
+use Rattle.stuffing.proofs.Steps.{Measured}
 use Rattle.stuffing.proofs.rbsp_length.Given as goal
 
-abbrev pub invariant-loop-b : goal.invariant-loop-b
-invariant-loop-b l = Removing l.ebsp [] [] l.b-index l.n (zeros_in l.before l.last)
+abbrev pub invariant-loop-three : goal.invariant-loop-three
+invariant-loop-three l = Measured l.ebsp l.rest l.n
+
+abbrev pub decreases-loop-three : goal.decreases-loop-three
+decreases-loop-three l = length l.rest
