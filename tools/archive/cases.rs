@@ -4,6 +4,7 @@ use bitstream::h266::{
     VvcOlsTimingHrd, VvcOlsTimingHrdSublayer, VvcSublayerHrd, VvcVps, VvcVpsDpb, VvcVpsLayer, VvcVpsOlsDpb,
     VvcVpsOlsHrd, VvcVpsTimingHrd,
 };
+use judge::draft::unit_of_rbsp;
 use judge::random::Random;
 use judge::show::unit_of;
 
@@ -52,6 +53,18 @@ pub fn by_sets() -> Vec<Case> {
     ]
 }
 
+// Units with so many bytes of RBSP behind the extension flag, by what these bytes are.
+pub fn long_extensions(count: usize) -> [(&'static str, Vec<u8>); 4] {
+    let zeros_and = |last: u8| [vec![0; count - 1], vec![last]].concat();
+    let half = count / 2;
+    [
+        ("one one-bit at the end", with_bytes(&zeros_and(0b01))),
+        ("ones in the first half", with_bytes(&[vec![0xff; half], vec![0; count - half]].concat())),
+        ("two one-bits at the end", with_bytes(&zeros_and(0b11))),
+        ("ones alone", with_bytes(&vec![0xff; count])),
+    ]
+}
+
 fn sample(unit: &[u8]) -> VvcVps {
     parse_vps(unit).expect("the sample is accepted")
 }
@@ -70,6 +83,16 @@ fn with_extension(length: usize) -> VvcVps {
     v.vps_extension_data = (0..bits).map(|_| random.below(2) as u8).collect();
     v.vps_extension_data.push(1);
     v
+}
+
+// U with extension flag 1 and bytes behind it. The flag is the first bit of U's last byte: the seven bits between it and the
+// bytes are as the first of these begins, so that the RBSP is U's bytes and then these.
+fn with_bytes(bytes: &[u8]) -> Vec<u8> {
+    let mut rbsp = write_vps(&one_layer()).expect("the Rust writes the structure");
+    assert_eq!(rbsp.pop(), Some(0b0100_0000), "U ends with its flag of 0 and the stop bit");
+    rbsp.push(0b1000_0000 | bytes[0] >> 1);
+    rbsp.extend(bytes);
+    unit_of_rbsp(&rbsp)
 }
 
 // So many layers, each on some of those below, with so many sublayers.

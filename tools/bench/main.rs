@@ -1,11 +1,12 @@
 // Times the static archive beside the Rust: the same units, one driver, batches in turn, medians over many rounds.
 use archive::calls;
-use archive::cases::{by_sets, cases, growth, Case};
+use archive::cases::{by_sets, cases, growth, long_extensions, Case};
 use archive::sentences::MOST_SENTENCE;
 use bitstream::h266::{parse_vps, write_vps_nal};
 use bitstream::nal::{ebsp_to_rbsp, rbsp_to_ebsp};
+use judge::extension_rule::found_by_rule;
 use judge::page::{Page, LINE_BYTES};
-use judge::record::record_of;
+use judge::record::{record_of, Reading};
 use judge::show::unit_of;
 use std::hint::black_box;
 use std::process::ExitCode;
@@ -14,12 +15,16 @@ use std::process::ExitCode;
 const BATCH: u64 = 1_000_000;
 const ROUNDS: usize = 201;
 
+// Of two calls that take turns no round begins once they have taken so many nanoseconds: slow ones have fewer rounds.
+const MOST_TURNS: u64 = 20_000_000_000;
+
 fn main() -> ExitCode {
     let words: Vec<String> = std::env::args().skip(1).collect();
     match &words[..] {
         [] => beside_the_rust(),
         [word] if word == "sentences" => return sentences(),
         [word] if word == "page" => return pages(),
+        [word] if word == "extension" => return extensions(),
         [side, call, name, count] => repeat(side, call, name, count.parse().expect("a number")),
         _ => return ExitCode::from(2),
     }
@@ -121,6 +126,44 @@ fn page_row(case: &Case) -> f64 {
     page
 }
 
+// ── Long extensions, by their bits ──────────────────────────────────────
+
+// Twice as many bytes behind the extension flag may take at most so many times as long to read.
+const MOST_GROWTH: f64 = 3.0;
+
+fn extensions() -> ExitCode {
+    println!("| RBSP behind the flag | 30,000 bytes, ns | 60,000 bytes, ns | Ratio |\n|---|---|---|---|");
+    let [shorter, longer] = [30_000, 60_000].map(long_extensions);
+    let rows = shorter.iter().zip(&longer);
+    let ratios: Vec<f64> = rows.map(|((name, short), (_, long))| extension_row(name, short, long)).collect();
+    println!("\nat most {MOST_GROWTH}");
+    if ratios.iter().all(|ratio| *ratio <= MOST_GROWTH) {
+        ExitCode::SUCCESS
+    } else {
+        ExitCode::FAILURE
+    }
+}
+
+fn extension_row(name: &str, short: &[u8], long: &[u8]) -> f64 {
+    let (short_time, long_time) = in_turns(&mut reading_as_ruled(short), &mut reading_as_ruled(long));
+    let ratio = long_time / short_time;
+    println!("| {name} | {short_time:.0} | {long_time:.0} | {ratio:.2} |");
+    ratio
+}
+
+// The archive's reading of a unit, once it has read it as the second judge does. The Rust refuses extension bits that end
+// in 0, and takes minutes over 60,000 bytes of zeros with two one-bits at the end.
+fn reading_as_ruled(unit: &[u8]) -> impl FnMut() + '_ {
+    let ruled = Reading::of(&found_by_rule(unit).expect("the extension flag is 1"));
+    let Reading::Accepted { record: numbers, .. } = &ruled else { panic!("the second judge accepts the unit") };
+    let (mut work, mut record) = (vec![0; unit.len()], vec![0; numbers.len()]);
+    let (mut length, mut bits) = (0, 0);
+    assert_eq!(calls::parse(unit, &mut work, &mut record, &mut length, &mut bits), 0, "the unit is accepted");
+    assert_eq!(length, record.len() as u64, "as many numbers as the second judge reads");
+    assert!(Reading::Accepted { record, bits_used: bits as usize } == ruled, "as the second judge reads it");
+    our_reading(unit, length as usize)
+}
+
 // ── One side alone, for a profiler ──────────────────────────────────────
 
 fn repeat(side: &str, call: &str, name: &str, count: usize) {
@@ -141,16 +184,11 @@ struct Sides<'a> {
 impl<'a> Sides<'a> {
     fn reading(unit: &'a [u8]) -> Self {
         let length = parse_vps(unit).map_or(64, |vps| record_of(&vps).len());
-        let (mut work, mut record) = (vec![0; unit.len()], vec![0; length]);
-        let (mut length, mut bits) = (0, 0);
         Sides {
             theirs: Box::new(move || {
                 let _ = black_box(parse_vps(black_box(unit)));
             }),
-            ours: Box::new(move || {
-                let number = calls::parse(black_box(unit), &mut work, &mut record, &mut length, &mut bits);
-                black_box((number, &work, &record, length, bits));
-            }),
+            ours: Box::new(our_reading(unit, length)),
         }
     }
 
@@ -187,13 +225,17 @@ impl<'a> Sides<'a> {
 
     // The medians of both, in nanoseconds a call.
     fn medians(mut self) -> (f64, f64) {
-        let (their_count, our_count) = (batch_size(&mut self.theirs), batch_size(&mut self.ours));
-        let (mut their_times, mut our_times) = (Vec::new(), Vec::new());
-        for _ in 0..ROUNDS {
-            their_times.push(batch(&mut self.theirs, their_count));
-            our_times.push(batch(&mut self.ours, our_count));
-        }
-        (median(their_times), median(our_times))
+        in_turns(&mut self.theirs, &mut self.ours)
+    }
+}
+
+// Reads a unit into a record of so many numbers.
+fn our_reading(unit: &[u8], length: usize) -> impl FnMut() + '_ {
+    let (mut work, mut record) = (vec![0; unit.len()], vec![0; length]);
+    let (mut length, mut bits) = (0, 0);
+    move || {
+        let number = calls::parse(black_box(unit), &mut work, &mut record, &mut length, &mut bits);
+        black_box((number, &work, &record, length, bits));
     }
 }
 
@@ -263,6 +305,21 @@ fn batch(run: &mut dyn FnMut(), count: usize) -> f64 {
     let began = processor_time();
     (0..count).for_each(|_| run());
     (processor_time() - began) as f64 / count as f64
+}
+
+// The medians of two calls that take turns, in nanoseconds a call.
+fn in_turns(first: &mut dyn FnMut(), second: &mut dyn FnMut()) -> (f64, f64) {
+    let (first_count, second_count) = (batch_size(first), batch_size(second));
+    let (mut first_times, mut second_times) = (Vec::new(), Vec::new());
+    let began = processor_time();
+    for _ in 0..ROUNDS {
+        first_times.push(batch(first, first_count));
+        second_times.push(batch(second, second_count));
+        if processor_time() - began >= MOST_TURNS {
+            break;
+        }
+    }
+    (median(first_times), median(second_times))
 }
 
 // The median of one side alone, in nanoseconds a call.
