@@ -9,7 +9,8 @@ use Rattle.std.specs.Int as Int
 use Rattle.bits.specs.Bits.{bit_at, field_at, ones_from}
 use Rattle.bits.specs.FieldLaws.{bit_of_byte, field_byte}
 use Rattle.bits.specs.OneLaws.{ones_past_end, ones_here, ones_fall, ones_behind_zeros}
-use Rattle.bits.specs.LastOne.{last_one_of, Found, last_one_found, found_once, is_before_last, more_by_last}
+use Rattle.bits.specs.LastOne.{last_one_of, Found, is_before_last}
+use Rattle.bits.proofs.LastOne.{last_one_found, found_once, more_by_last}
 use Rattle.bits.specs.Reading.{more_data}
 use Rattle.vps_definition.specs.Reading.{data_bits}
 use Rattle.vps_laws.specs.Extension.{data_to_last, data_without_ones}
