@@ -121,13 +121,17 @@ alignment_bit_one = 29
 abbrev pub record_too_short : ℕ
 record_too_short = 30
 
--- writer: not well formed; bit steps: a width over 32, a value that its code can't hold, a place from 2^63 on
+-- writer, and all that answers from a record: not well formed; bit steps: a width over 32, a value that its code can't hold, a place from 2^63 on
 abbrev pub not_well_formed : ℕ
 not_well_formed = 31
 
--- writer, bit steps, adding and removing stuffing: output too short
+-- all that stores into an output: output too short
 abbrev pub output_too_short : ℕ
 output_too_short = 32
+
+-- rates, intervals: no timing section in the record, or no such entry, sublayer or schedule
+abbrev pub item_missing : ℕ
+item_missing = 33
 
 -- layers: vps_video_parameter_set_id is 0; said where the rule of it is in force
 abbrev pub id_zero : ℕ

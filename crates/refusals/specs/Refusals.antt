@@ -4,7 +4,7 @@ use Rattle.std.proofs.Common.{arith}
 use Rattle.refusals.specs.Answer.{Answer}
 use Rattle.refusals.specs.Answer.Answer.{success, refusal}
 use Rattle.refusals.specs.declared.refusal.Refusal.{Refusal}
-use Rattle.refusals.specs.declared.refusal.Refusal.TheVariants.{UnitTooShort, NotAVps, RbspTooLong, WorkTooShort, SublayersReserved, LayerIdsNotRising, NoDirectReference, ModeReserved, NoOutputLayer, PtlsOverSets, PtlMaxTid, PtlAlignment, PtlIndex, CodeTooLong, DpbSlots, DpbMaxTid, DpbBuffering, DpbReorder, DpbDepth, DpbIndex, TimingZero, ScheduleCount, TimingEntries, TimingMaxTid, ElementalDuration, TimingIndex, StopBitMissing, StopBitZero, AlignmentBitOne, RecordTooShort, NotWellFormed, OutputTooShort}
+use Rattle.refusals.specs.declared.refusal.Refusal.TheVariants.{UnitTooShort, NotAVps, RbspTooLong, WorkTooShort, SublayersReserved, LayerIdsNotRising, NoDirectReference, ModeReserved, NoOutputLayer, PtlsOverSets, PtlMaxTid, PtlAlignment, PtlIndex, CodeTooLong, DpbSlots, DpbMaxTid, DpbBuffering, DpbReorder, DpbDepth, DpbIndex, TimingZero, ScheduleCount, TimingEntries, TimingMaxTid, ElementalDuration, TimingIndex, StopBitMissing, StopBitZero, AlignmentBitOne, RecordTooShort, NotWellFormed, OutputTooShort, ItemMissing}
 use Rattle.refusals.specs.declared.refusal.NoRefusal.{NoRefusal}
 use Rattle.refusals.specs.Number as Number
 
@@ -41,6 +41,7 @@ number_of AlignmentBitOne = Number.alignment_bit_one
 number_of RecordTooShort = Number.record_too_short
 number_of NotWellFormed = Number.not_well_formed
 number_of OutputTooShort = Number.output_too_short
+number_of ItemMissing = Number.item_missing
 
 -- the result is the refusal with this number, or an error with a number that none has
 abbrev pub Decodes : ℕ → Result Refusal NoRefusal → Type 0
@@ -85,3 +86,4 @@ number_some AlignmentBitOne = omega arith
 number_some RecordTooShort = omega arith
 number_some NotWellFormed = omega arith
 number_some OutputTooShort = omega arith
+number_some ItemMissing = omega arith

@@ -70,10 +70,12 @@ pub enum Refusal {
     AlignmentBitOne = 29,
     // record: record buffer too short; the needed length is returned
     RecordTooShort = 30,
-    // writer: not well formed; bit steps: a width over 32, a value that its code can't hold, a place from 2^63 on
+    // writer, and all that answers from a record: not well formed; bit steps: a width over 32, a value that its code can't hold, a place from 2^63 on
     NotWellFormed = 31,
-    // writer, bit steps, adding and removing stuffing: output too short
+    // all that stores into an output: output too short
     OutputTooShort = 32,
+    // rates, intervals: no timing section in the record, or no such entry, sublayer or schedule
+    ItemMissing = 33,
 }
 
 // A number that no refusal has.
@@ -128,6 +130,7 @@ impl TryFrom<u32> for Refusal {
             30 => Ok(Refusal::RecordTooShort),
             31 => Ok(Refusal::NotWellFormed),
             32 => Ok(Refusal::OutputTooShort),
+            33 => Ok(Refusal::ItemMissing),
             _ => Err(NoRefusal(number)),
         }
     }

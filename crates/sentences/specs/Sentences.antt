@@ -44,6 +44,7 @@ table =
     ∷ row "record" "buffer" "too-short"
     ∷ row "writer" "record" "malformed"
     ∷ row "writer" "buffer" "too-short"
+    ∷ row "rates" "item" "missing"
     ∷ []
 
 -- the last number that has a sentence

@@ -13,7 +13,7 @@ use refusals::Refusal;
 use texts::Text;
 
 // The last number that has a sentence.
-const LAST_NUMBER: u32 = 32;
+const LAST_NUMBER: u32 = 33;
 
 // The place, the field and the fault of each refusal, from number 1 on.
 const ROWS: [[&'static str; 3]; LAST_NUMBER as usize] = [
@@ -49,6 +49,7 @@ const ROWS: [[&'static str; 3]; LAST_NUMBER as usize] = [
     ["record", "buffer", "too-short"],
     ["writer", "record", "malformed"],
     ["writer", "buffer", "too-short"],
+    ["rates", "item", "missing"],
 ];
 
 // Room for every sentence: three words of at most 15 bytes and two blanks.
