@@ -1,0 +1,3 @@
+pub mod Figures
+pub mod Bounds
+pub mod Found

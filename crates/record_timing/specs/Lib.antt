@@ -1,0 +1,4 @@
+pub mod Timing
+pub mod There
+pub mod Items
+pub mod Few
