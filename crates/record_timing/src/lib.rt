@@ -19,6 +19,16 @@ use refusals::Refusal;
 pub use schedule::{Kind, Schedule};
 pub use sublayer::Sublayer;
 
+// Why a record has no answer for an item that it lacks: a list that is not well formed comes first.
+pub fn lacks(record: &[u32]) -> Refusal
+    ensures { number_of result ≡ lacks «record».now }
+{
+    if vps_writer::is_well_formed(record) {
+        return Refusal::ItemMissing;
+    }
+    Refusal::NotWellFormed
+}
+
 // The timing section of a lent record, which is well formed and has one.
 #[derive(Clone, Copy)]
 pub struct RecordTiming<'a> {

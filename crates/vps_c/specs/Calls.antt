@@ -53,8 +53,8 @@ module _ {x : Reader.Parsed} {r : Result Parsed NotParsed} {work lent : List ℕ
   parses_refused e n = parses_as (ap parsed_answer e) n refl refl
 
 -- ── Answers with one number ───────────────────────────────────────────
-abbrev pub answer_number : Answer ℕ → ℕ
-answer_number (success n) = 0
+abbrev pub answer_number : {A : Type 0} → Answer A → ℕ
+answer_number (success a) = 0
 answer_number (refusal k) = k
 
 -- what success stores; a refusal leaves what was there before

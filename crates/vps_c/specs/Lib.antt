@@ -1,3 +1,4 @@
 pub mod Calls
+pub mod Figures
 pub mod Lengths
 pub mod Success

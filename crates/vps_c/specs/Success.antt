@@ -1,11 +1,11 @@
 -- 0 is the number of success and of nothing else, 30 that of a record that is too short and of nothing else, and every number but 0
 -- has a sentence.
-use Rattle.std.specs.Prelude.{ℕ, ◌/◌, ◌≤◌, ◌<◌, ◌≡◌, refl, List, [], ◌∷◌, Bool, true, false, cond, ◌↔◌, ◌⊎◌, leb, eqb, length}
+use Rattle.std.specs.Prelude.{ℕ, ◌/◌, ◌≤◌, ◌<◌, ◌≡◌, refl, List, [], ◌∷◌, Bool, true, false, cond, ◌↔◌, ◌⊎◌, leb, eqb, length, Option, Some, None}
 use Rattle.std.proofs.lemmas.Bool.{false≢true}
 use Rattle.std.proofs.Common.{inl, inr, arith, leb-true}
 use Rattle.refusals.specs.Answer.{Answer}
 use Rattle.refusals.specs.Answer.Answer.{success, refusal}
-use Rattle.refusals.specs.Number.{unit_too_short, work_too_short, sublayers_reserved, timing_index, stop_bit_missing, alignment_bit_one, record_too_short, not_well_formed, output_too_short}
+use Rattle.refusals.specs.Number.{unit_too_short, work_too_short, sublayers_reserved, timing_index, stop_bit_missing, alignment_bit_one, record_too_short, not_well_formed, output_too_short, item_missing}
 use Rattle.refusals.specs.Lent.{lent}
 use Rattle.stuffing.specs.Stuffing.{unstuff}
 use Rattle.sentences.specs.Sentences.{table, last_number}
@@ -21,7 +21,11 @@ use Rattle.layer_page.specs.Page.{page_of, layer_page}
 use Rattle.vps_laws.specs.Records.{of_record}
 use Rattle.vps_laws.specs.Says.{Said, Among, TableSaid, ReadingSays}
 use Rattle.vps_laws.proofs.Says.{rbsp_says}
+use Rattle.record_timing.specs.declared.schedule.Kind.{Kind}
+use Rattle.record_timing.specs.Timing.{has_sublayer, has_schedule, lacks}
+use Rattle.link_figures.specs.Figures.{rate_at, size_at, interval_at, bit_rate, buffer_size, picture_interval}
 use Rattle.vps_c.specs.Calls.{answer_number}
+use Rattle.vps_c.specs.Figures.{kind_of, figure_of}
 
 clash : {A : Type 0} → ◌≡◌ {A = ℕ} 0 1 → A
 clash e = absurd (omega arith)
@@ -100,7 +104,7 @@ parse_worded unit work lent = go (parse_unit unit work lent).answer (parse_other
     go (too_short needed) h = inr (record { first = omega arith; last = omega arith })
     go (refused k) h = inr h.is.worded
 
--- ── The writer, the layer page, the stuffing and the sentences ────────
+-- ── The writer and the layer page ─────────────────────────────────────
 -- a refusal is 31 or more, and has a sentence
 abbrev Late : {A : Type 0} → Answer A → Type 0
 Late (success a) = Unit {0}
@@ -132,11 +136,11 @@ unfolding write_of
 write_late out (success b) h = lent_late b out
 write_late out (refusal k) h = h
 
-late_zero : (x : Answer ℕ) → Late x → (answer_number x ≡ 0) ↔ ((n : ℕ) × (x ≡ success n))
+late_zero : {A : Type 0} (x : Answer A) → Late x → (answer_number x ≡ 0) ↔ ((n : A) × (x ≡ success n))
 late_zero (success n) h = (λ e. (n, refl), λ e. refl)
 late_zero (refusal k) h = (λ e. absurd (omega (arith, e, h.0)), λ e. clash (cc e.1))
 
-late_worded : (x : Answer ℕ) → Late x → (answer_number x ≡ 0) ⊎ InTable (answer_number x)
+late_worded : {A : Type 0} (x : Answer A) → Late x → (answer_number x ≡ 0) ⊎ InTable (answer_number x)
 late_worded (success n) h = inl refl
 late_worded (refusal k) h = inr (record { first = omega (arith, h.0); last = h.1 })
 
@@ -152,6 +156,58 @@ page_zero out r = late_zero (write_of out (layer_page r)) (write_late out (layer
 pub page_worded : (out r : List ℕ) → (answer_number (write_of out (layer_page r)) ≡ 0) ⊎ InTable (answer_number (write_of out (layer_page r)))
 page_worded out r = late_worded (write_of out (layer_page r)) (write_late out (layer_page r) (page_late r))
 
+-- ── Link figures ──────────────────────────────────────────────────────
+lacks_late : (r : List ℕ) → (31 ≤ lacks r) × (lacks r ≤ last_number)
+unfolding lacks last_number table
+lacks_late r = go (well_formed r)
+  where
+    go : (b : Bool) → (31 ≤ cond b item_missing not_well_formed) × (cond b item_missing not_well_formed ≤ last_number)
+    go true = (omega arith, omega arith)
+    go false = (omega arith, omega arith)
+
+item_late : {A : Type 0} (b : Bool) (a : A) (r : List ℕ) → Late (cond b (success a) (refusal (lacks r)))
+item_late true a r = tt
+item_late false a r = lacks_late r
+
+module _ (r : List ℕ) (e j : ℕ) where
+  pub interval_zero : (answer_number (picture_interval r e j) ≡ 0) ↔ ((x : Option ℕ) × (picture_interval r e j ≡ success x))
+  unfolding picture_interval
+  interval_zero = late_zero _ (item_late (has_sublayer r e j) (interval_at r e j) r)
+
+  pub interval_worded : (answer_number (picture_interval r e j) ≡ 0) ⊎ InTable (answer_number (picture_interval r e j))
+  unfolding picture_interval
+  interval_worded = late_worded _ (item_late (has_sublayer r e j) (interval_at r e j) r)
+
+  module _ (vcl c : ℕ) where
+    rate_late : (kind : Option Kind) → Late (figure_of kind r (λ k. bit_rate r e j k c))
+    unfolding bit_rate
+    rate_late None = lacks_late r
+    rate_late (Some kind) = item_late (has_schedule r e j kind c) (rate_at r e j kind c) r
+
+    size_late : (kind : Option Kind) → Late (figure_of kind r (λ k. buffer_size r e j k c))
+    unfolding buffer_size
+    size_late None = lacks_late r
+    size_late (Some kind) = item_late (has_schedule r e j kind c) (size_at r e j kind c) r
+
+    abbrev rate : Answer ℕ
+    rate = figure_of (kind_of vcl) r (λ k. bit_rate r e j k c)
+
+    abbrev size : Answer ℕ
+    size = figure_of (kind_of vcl) r (λ k. buffer_size r e j k c)
+
+    pub rate_zero : (answer_number rate ≡ 0) ↔ ((n : ℕ) × (rate ≡ success n))
+    rate_zero = late_zero rate (rate_late (kind_of vcl))
+
+    pub rate_worded : (answer_number rate ≡ 0) ⊎ InTable (answer_number rate)
+    rate_worded = late_worded rate (rate_late (kind_of vcl))
+
+    pub size_zero : (answer_number size ≡ 0) ↔ ((n : ℕ) × (size ≡ success n))
+    size_zero = late_zero size (size_late (kind_of vcl))
+
+    pub size_worded : (answer_number size ≡ 0) ⊎ InTable (answer_number size)
+    size_worded = late_worded size (size_late (kind_of vcl))
+
+-- ── Stuffing and sentences ────────────────────────────────────────────
 -- of adding and removing and of sentences alike
 pub lent_zero : (s out : List ℕ) → (answer_number (lent s out) ≡ 0) ↔ ((n : ℕ) × (lent s out ≡ success n))
 lent_zero s out = late_zero (lent s out) (lent_late s out)
