@@ -1,7 +1,8 @@
 /*
  * H.266 video parameter sets (VPS): reading a unit into a record, writing a record as a unit, looking up a record's sections,
- * printing its layer page, byte stuffing, and refusals as sentences that can be read out. The functions stand in the archive
- * libvps_c.a (README.md says how to link it); each is proved to do what is said here, for all bytes, numbers and lengths.
+ * printing its layer page, its rates, buffer sizes and picture intervals as plain figures, byte stuffing, and refusals as sentences
+ * that can be read out. The functions stand in the archive libvps_c.a (README.md says how to link it); each is proved to do what is
+ * said here, for all bytes, numbers and lengths.
  *
  * Every function but vps_sentence_number, which gives the number that a sentence names, gives 0 (VPS_SUCCESS) or the number of a
  * refusal. None fails in another way. A buffer is a pointer and the number of its elements. What a caller owes:
@@ -117,10 +118,12 @@ enum vps_answer {
     /* record: record buffer too short; the needed length is stored */
     VPS_RECORD_TOO_SHORT = 30,
 
-    /* writer, layer page: not well formed */
+    /* writer, layer page, rates, buffer sizes, picture intervals: not well formed */
     VPS_NOT_WELL_FORMED = 31,
     /* writer, layer page, adding and removing stuffing, sentences: output too short */
-    VPS_OUTPUT_TOO_SHORT = 32
+    VPS_OUTPUT_TOO_SHORT = 32,
+    /* rates, buffer sizes, picture intervals: no timing section, or no such entry, sublayer or schedule in it */
+    VPS_ITEM_MISSING = 33
 };
 
 /* The sections of a record, by number. */
@@ -201,6 +204,77 @@ uint32_t vps_section(const uint32_t *record, size_t record_length, uint32_t numb
  * No other number is given.
  */
 uint32_t vps_layer_page(const uint32_t *record, size_t record_length, uint8_t *output, size_t output_length, uint64_t *length);
+
+/*
+ * Figures of the timing section: the next three functions. What is asked for is named by its timing entry, its sublayer in that
+ * entry and, for a schedule, its kind, NAL or VCL, and its place among those of its kind; each is counted from 0, in the order of
+ * the record. An entry has the sublayers that are stored in it: sublayer 0 alone where the section's sublayer flag is 0. Of a kind
+ * whose flag is 1 a sublayer has schedule count field + 1 schedules; of a kind whose flag is 0, none.
+ *
+ * Each call checks the whole record, so its time is linear in record_length, whatever is asked for.
+ */
+
+/* The kinds of schedules. */
+enum vps_schedules {
+    VPS_SCHEDULES_NAL = 0,
+    VPS_SCHEDULES_VCL = 1
+};
+
+/*
+ * Tells the bit rate of a schedule, in bits a second: (rate field + 1) * 2^(6 + bit rate scale).
+ *
+ * record, record_length  exactly the record, as long as vps_parse said, in numbers; it is not changed
+ * entry, sublayer        where the schedule is
+ * vcl                    its kind, 0 or 1 (enum vps_schedules)
+ * schedule               which of its kind
+ * rate                   see below
+ *
+ * 0           *rate is the bit rate: at least 64, and at most (2^32 - 1) * 2^21 = 9,007,199,252,643,840.
+ * 31          the record is not well formed, whatever is asked for; *rate is as before.
+ * 33          there is no timing section, no such schedule in it, or vcl is over 1; *rate is as before.
+ *
+ * No other number is given.
+ */
+uint32_t vps_bit_rate(const uint32_t *record, size_t record_length, uint32_t entry, uint32_t sublayer, uint32_t vcl,
+                      uint32_t schedule, uint64_t *rate);
+
+/*
+ * Tells the buffer size of a schedule, in bits: (size field + 1) * 2^(4 + buffer size scale).
+ *
+ * record, record_length  exactly the record, as long as vps_parse said, in numbers; it is not changed
+ * entry, sublayer        where the schedule is
+ * vcl                    its kind, 0 or 1 (enum vps_schedules)
+ * schedule               which of its kind
+ * size                   see below
+ *
+ * 0           *size is the buffer size: at least 16, and at most (2^32 - 1) * 2^19 = 2,251,799,813,160,960.
+ * 31          the record is not well formed, whatever is asked for; *size is as before.
+ * 33          there is no timing section, no such schedule in it, or vcl is over 1; *size is as before.
+ *
+ * No other number is given.
+ */
+uint32_t vps_buffer_size(const uint32_t *record, size_t record_length, uint32_t entry, uint32_t sublayer, uint32_t vcl,
+                         uint32_t schedule, uint64_t *size);
+
+/*
+ * Tells the picture interval of a sublayer, in whole microseconds, rounded down: (elemental field + 1) * units * 1,000,000 / scale.
+ * Only a sublayer whose rate-within-CVS flag is 1 has one.
+ *
+ * record, record_length  exactly the record, as long as vps_parse said, in numbers; it is not changed
+ * entry, sublayer        which sublayer
+ * known                  see below
+ * microseconds           see below
+ *
+ * 0           if the flag is 1, *known is 1 and *microseconds the interval: 0 if it is under a microsecond, and at most
+ *             2,048 * (2^32 - 1) * 1,000,000 = 8,796,093,020,160,000,000, which fits int64_t too. If the flag is 0, *known and
+ *             *microseconds are 0.
+ * 31          the record is not well formed, whatever is asked for; *known and *microseconds are as before.
+ * 33          there is no timing section, or no such sublayer in it; *known and *microseconds are as before.
+ *
+ * No other number is given.
+ */
+uint32_t vps_picture_interval(const uint32_t *record, size_t record_length, uint32_t entry, uint32_t sublayer, uint32_t *known,
+                              uint64_t *microseconds);
 
 /*
  * Removes stuffing: drops the 03 of each 00 00 03, from the left, also at the end.
