@@ -2,6 +2,7 @@
 #![forbid(unsafe_code)]
 
 use crate::archive::{self, Said};
+use crate::kind::Kind;
 use crate::refusal::Refusal;
 
 /// An accepted unit.
@@ -76,7 +77,7 @@ pub fn parse(unit: &[u8], work: &mut [u8], record: &mut [u32]) -> Result<Parsed,
 /// # Ok::<(), Refusal>(())
 /// ```
 pub fn write(record: &[u32], output: &mut [u8]) -> Result<usize, Refusal> {
-    told(archive::write(record, output))
+    told_length(archive::write(record, output))
 }
 
 /// A section of a record: a part of `record` itself.
@@ -133,7 +134,98 @@ pub fn section(record: &[u32], number: impl Into<u32>) -> &[u32] {
 /// # Ok::<(), Refusal>(())
 /// ```
 pub fn layer_page(record: &[u32], output: &mut [u8]) -> Result<usize, Refusal> {
-    told(archive::layer_page(record, output))
+    told_length(archive::layer_page(record, output))
+}
+
+/// Tells the bit rate of a schedule, in bits a second: (rate field + 1) * 2^(6 + bit rate scale).
+///
+/// The schedule is named by its timing entry, its sublayer in that entry, its kind, and its place among those of its kind; each is
+/// counted from 0, in the order of the record. An entry has the sublayers that are stored in it: sublayer 0 alone where the timing
+/// section's sublayer flag is 0. Of a kind whose flag is 1 a sublayer has schedule count field + 1 schedules; of a kind whose flag
+/// is 0, none.
+///
+/// A rate is at least 64, and at most (2^32 - 1) * 2^21 = 9,007,199,252,643,840. Refusals 31 and 33 can come out: 31 whatever is
+/// asked for, and 33 if there is no timing section, or no such schedule in it. Each call checks the whole record, so its time is
+/// linear in the record's length.
+///
+/// ```
+/// use teglyovash::{bit_rate, parse, Kind, Refusal};
+///
+/// // one timing entry of one sublayer; its NAL schedules have the rate fields 3 and 4, and the scale is 0
+/// let unit = include_bytes!("../../../samples/timing.vps");
+/// let mut record = [0; 78];
+/// parse(unit, &mut [0; 24], &mut record)?;
+/// assert_eq!(bit_rate(&record, 0, 0, Kind::Nal, 0), Ok(256));
+/// assert_eq!(bit_rate(&record, 0, 0, Kind::Nal, 1), Ok(320));
+///
+/// assert_eq!(bit_rate(&record, 0, 0, Kind::Nal, 2), Err(Refusal::ItemMissing));
+/// assert_eq!(bit_rate(&record, 0, 0, Kind::Vcl, 0), Err(Refusal::ItemMissing));
+/// assert_eq!(bit_rate(&record, 0, 1, Kind::Nal, 0), Err(Refusal::ItemMissing));
+/// assert_eq!(bit_rate(&record, 1, 0, Kind::Nal, 0), Err(Refusal::ItemMissing));
+///
+/// // max_sublayers_minus1 is never 7
+/// record[2] = 7;
+/// assert_eq!(bit_rate(&record, 1, 0, Kind::Nal, 0), Err(Refusal::NotWellFormed));
+/// # Ok::<(), Refusal>(())
+/// ```
+pub fn bit_rate(record: &[u32], entry: u32, sublayer: u32, kind: Kind, schedule: u32) -> Result<u64, Refusal> {
+    told(archive::bit_rate(record, entry, sublayer, kind.into(), schedule))
+}
+
+/// Tells the buffer size of a schedule, in bits: (size field + 1) * 2^(4 + buffer size scale).
+///
+/// The schedule is named as for [`bit_rate`], with the same refusals. A size is at least 16, and at most
+/// (2^32 - 1) * 2^19 = 2,251,799,813,160,960.
+///
+/// ```
+/// use teglyovash::{buffer_size, parse, Kind, Refusal};
+///
+/// // the size fields are 4 and 4, and the scale is 0
+/// let unit = include_bytes!("../../../samples/timing.vps");
+/// let mut record = [0; 78];
+/// parse(unit, &mut [0; 24], &mut record)?;
+/// assert_eq!(buffer_size(&record, 0, 0, Kind::Nal, 1), Ok(80));
+/// assert_eq!(buffer_size(&record, 0, 0, Kind::Nal, 2), Err(Refusal::ItemMissing));
+///
+/// // the section's buffer size scale, and the size field of schedule 1
+/// record[52] = 3;
+/// record[66] = 101;
+/// assert_eq!(buffer_size(&record, 0, 0, Kind::Nal, 1), Ok(13_056));
+/// # Ok::<(), Refusal>(())
+/// ```
+pub fn buffer_size(record: &[u32], entry: u32, sublayer: u32, kind: Kind, schedule: u32) -> Result<u64, Refusal> {
+    told(archive::buffer_size(record, entry, sublayer, kind.into(), schedule))
+}
+
+/// Tells the picture interval of a sublayer, in whole microseconds, rounded down: (elemental field + 1) * units * 1,000,000 / scale.
+/// Only a sublayer whose rate-within-CVS flag is 1 has one; for any other it is `None`, which is no refusal.
+///
+/// The sublayer is named as for [`bit_rate`], with the same refusals. An interval under a microsecond is 0, and none is over
+/// 2,048 * (2^32 - 1) * 1,000,000 = 8,796,093,020,160,000,000, which fits `i64` too.
+///
+/// ```
+/// use teglyovash::{parse, picture_interval, Refusal};
+///
+/// // 1,001 units, scale 60,000; the only sublayer's rate-within-CVS flag is 0
+/// let unit = include_bytes!("../../../samples/timing.vps");
+/// let mut record = [0; 78];
+/// parse(unit, &mut [0; 24], &mut record)?;
+/// assert_eq!(picture_interval(&record, 0, 0), Ok(None));
+/// assert_eq!(picture_interval(&record, 0, 1), Err(Refusal::ItemMissing));
+///
+/// // the flag, and with it the elemental field
+/// record[59] = 1;
+/// record[60] = 1;
+/// assert_eq!(picture_interval(&record, 0, 0), Ok(Some(33_366)));
+/// # Ok::<(), Refusal>(())
+/// ```
+pub fn picture_interval(record: &[u32], entry: u32, sublayer: u32) -> Result<Option<u64>, Refusal> {
+    let said = archive::picture_interval(record, entry, sublayer);
+    match (said.number, said.known) {
+        (0, 0) => Ok(None),
+        (0, _) => Ok(Some(said.microseconds)),
+        (number, _) => Err(Refusal::of(number, 0)),
+    }
 }
 
 /// Removes stuffing from a NAL unit's payload, the bytes behind its header, and gives the RBSP's length.
@@ -150,7 +242,7 @@ pub fn layer_page(record: &[u32], output: &mut [u8]) -> Result<usize, Refusal> {
 /// assert_eq!(ebsp_to_rbsp(&[0, 0, 3, 0, 0, 3], &mut output[..3]), Err(Refusal::OutputTooShort));
 /// ```
 pub fn ebsp_to_rbsp(source: &[u8], output: &mut [u8]) -> Result<usize, Refusal> {
-    told(archive::ebsp_to_rbsp(source, output))
+    told_length(archive::ebsp_to_rbsp(source, output))
 }
 
 /// Adds stuffing to an RBSP, and gives the payload's length.
@@ -167,7 +259,7 @@ pub fn ebsp_to_rbsp(source: &[u8], output: &mut [u8]) -> Result<usize, Refusal> 
 /// assert_eq!(rbsp_to_ebsp(&[0, 0, 0, 0], &mut output[..5]), Err(Refusal::OutputTooShort));
 /// ```
 pub fn rbsp_to_ebsp(source: &[u8], output: &mut [u8]) -> Result<usize, Refusal> {
-    told(archive::rbsp_to_ebsp(source, output))
+    told_length(archive::rbsp_to_ebsp(source, output))
 }
 
 /// Stores the sentence of a refusal, given by its number, and gives the sentence's length in bytes.
@@ -199,14 +291,18 @@ pub fn rbsp_to_ebsp(source: &[u8], output: &mut [u8]) -> Result<usize, Refusal> 
 /// assert_eq!(short, [0xff; 19]);
 /// ```
 pub fn sentence(number: u32, output: &mut [u8]) -> Result<usize, Refusal> {
-    told(archive::sentence(number, output))
+    told_length(archive::sentence(number, output))
 }
 
-fn told(said: Said) -> Result<usize, Refusal> {
+fn told(said: Said) -> Result<u64, Refusal> {
     match said.number {
-        0 => Ok(position(said.stored)),
+        0 => Ok(said.stored),
         number => Err(Refusal::of(number, 0)),
     }
+}
+
+fn told_length(said: Said) -> Result<usize, Refusal> {
+    told(said).map(position)
 }
 
 /// A length of something in memory, or the length that a record needs: at most [`crate::MOST_RECORD_NUMBERS`].

@@ -33,6 +33,32 @@ unsafe extern "C" {
         output_length: usize,
         length: *mut u64,
     ) -> u32;
+    pub(crate) fn vps_bit_rate(
+        record: *const u32,
+        record_length: usize,
+        entry: u32,
+        sublayer: u32,
+        vcl: u32,
+        schedule: u32,
+        rate: *mut u64,
+    ) -> u32;
+    pub(crate) fn vps_buffer_size(
+        record: *const u32,
+        record_length: usize,
+        entry: u32,
+        sublayer: u32,
+        vcl: u32,
+        schedule: u32,
+        size: *mut u64,
+    ) -> u32;
+    pub(crate) fn vps_picture_interval(
+        record: *const u32,
+        record_length: usize,
+        entry: u32,
+        sublayer: u32,
+        known: *mut u32,
+        microseconds: *mut u64,
+    ) -> u32;
     pub(crate) fn vps_ebsp_to_rbsp(
         source: *const u8,
         source_length: usize,

@@ -1,5 +1,5 @@
-//! H.266 video parameter sets (VPS): a unit read into a record, a record written as a unit, a record's sections and layer page, byte
-//! stuffing, and refusals as sentences that can be read out.
+//! H.266 video parameter sets (VPS): a unit read into a record, a record written as a unit, a record's sections and layer page, its
+//! rates, buffer sizes and picture intervals as plain figures, byte stuffing, and refusals as sentences that can be read out.
 //!
 //! The work is done by proved code in the archive `libvps_c.a`: for all bytes, numbers and lengths each function does what is said
 //! here. This crate adds types, and no checks of its own. All buffers are the caller's, and nothing is allocated.
@@ -26,11 +26,18 @@ mod archive;
 mod calls;
 mod declared;
 #[cfg(test)]
+mod figure_tests;
+mod kind;
+#[cfg(test)]
 mod page_tests;
 mod refusal;
 mod section;
 
-pub use calls::{ebsp_to_rbsp, layer_page, parse, rbsp_to_ebsp, section, sentence, write, Parsed};
+pub use calls::{
+    bit_rate, buffer_size, ebsp_to_rbsp, layer_page, parse, picture_interval, rbsp_to_ebsp, section, sentence, write,
+    Parsed,
+};
+pub use kind::Kind;
 pub use refusal::Refusal;
 pub use section::Section;
 

@@ -6,9 +6,9 @@ use crate::{archive, MOST_SENTENCE_BYTES};
 use std::error::Error;
 use std::{fmt, str};
 
-/// Why a unit was not read, a record not written, a layer page not printed, stuffing not added or removed, or a sentence not stored.
-/// Its text is its sentence, three words for place, field and fault, and nothing else. Below are place and condition of each; T is the
-/// number of output layer sets, and M that of those with more than one layer.
+/// Why a unit was not read, a record not written, a layer page not printed, a figure not told, stuffing not added or removed, or a
+/// sentence not stored. Its text is its sentence, three words for place, field and fault, and nothing else. Below are place and
+/// condition of each; T is the number of output layer sets, and M that of those with more than one layer.
 ///
 /// ```
 /// use teglyovash::Refusal;
@@ -82,14 +82,16 @@ pub enum Refusal {
         /// The length that the record needs, in numbers.
         needed: usize,
     },
-    /// 31, writer, layer page: not well formed.
+    /// 31, writer, layer page, rates, buffer sizes, picture intervals: not well formed.
     NotWellFormed,
     /// 32, writer, layer page, adding and removing stuffing, sentences: output too short.
     OutputTooShort,
+    /// 33, rates, buffer sizes, picture intervals: no timing section, or no such entry, sublayer or schedule in it.
+    ItemMissing,
 }
 
 impl Refusal {
-    /// The refusal's number, 1 to 32.
+    /// The refusal's number, 1 to 33.
     pub fn number(self) -> u32 {
         match self {
             Refusal::UnitTooShort => 1,
@@ -124,6 +126,7 @@ impl Refusal {
             Refusal::RecordTooShort { .. } => 30,
             Refusal::NotWellFormed => 31,
             Refusal::OutputTooShort => 32,
+            Refusal::ItemMissing => 33,
         }
     }
 
@@ -162,6 +165,7 @@ impl Refusal {
             30 => Refusal::RecordTooShort { needed },
             31 => Refusal::NotWellFormed,
             32 => Refusal::OutputTooShort,
+            33 => Refusal::ItemMissing,
             _ => unreachable!("no function gives {number}"),
         }
     }
@@ -202,7 +206,7 @@ mod tests {
 
     /// Every refusal, in order of its number.
     fn all() -> Vec<Refusal> {
-        (1..=32).map(|number| Refusal::of(number, 0)).collect()
+        (1..=33).map(|number| Refusal::of(number, 0)).collect()
     }
 
     #[test]
@@ -227,6 +231,7 @@ mod tests {
         assert_eq!(Refusal::LayerIdsNotRising.to_string(), "layers ids not-rising");
         assert_eq!(Refusal::ScheduleCount.to_string(), "timing schedule-count over-31");
         assert_eq!(Refusal::RecordTooShort { needed: 38 }.to_string(), "record buffer too-short");
+        assert_eq!(Refusal::ItemMissing.to_string(), "rates item missing");
     }
 
     #[test]
