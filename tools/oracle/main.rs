@@ -1,7 +1,7 @@
 // The judges' answers, by sub-command: each is a module of its own.
 use judge::{
-    changed_records, definition_units, leaves, page, record_list, records, samples, section_list, show, unit_list,
-    units,
+    changed_records, definition_units, figures, leaves, page, record_list, records, samples, section_list, show,
+    unit_list, units,
 };
 
 use std::io::Write;
@@ -23,6 +23,7 @@ oracle section-list expected                 what it is to print
 oracle section-list set-aside                how many records are well formed, and not, by the second judge
 oracle show HEX                              the Rust's answer for a unit, and the second judge's where that counts
 oracle page HEX                              the second judge's layer page for an accepted unit, or the refusal's number
+oracle figures HEX                           the second judge's figures for an accepted unit, or the refusal's number
 oracle records                               what the Rust writes for records that are not well formed, and for some that are
 oracle units SEED COUNT MAXBYTES             a line a unit: bytes, and record with bits used, or refusal
 oracle units-summary SEED COUNT MAXBYTES     how many of those each refusal and each shape has
@@ -48,14 +49,9 @@ fn main() -> ExitCode {
         ["section-list"] => write_out(section_list::list().bytes()),
         ["section-list", "expected"] => write_out(section_list::list().expected().as_bytes()),
         ["section-list", "set-aside"] => write_out(section_list::set_aside().as_bytes()),
-        ["show", hex] => match show::unit_of(hex) {
-            Some(unit) => write_out(show::answer(&unit).as_bytes()),
-            None => fail("not pairs of hexadecimal digits"),
-        },
-        ["page", hex] => match show::unit_of(hex) {
-            Some(unit) => write_out(&page::answer(&unit)),
-            None => fail("not pairs of hexadecimal digits"),
-        },
+        ["show", hex] => write_of_unit(hex, |unit| show::answer(unit).into_bytes()),
+        ["page", hex] => write_of_unit(hex, page::answer),
+        ["figures", hex] => write_of_unit(hex, |unit| figures::answer(unit).into_bytes()),
         ["records"] => write_out(records::answers().as_bytes()),
         ["units", numbers @ ..] => write_lines(units::lines, numbers),
         ["units-summary", numbers @ ..] => write_lines(units::summary, numbers),
@@ -78,6 +74,14 @@ fn write_lines(lines: fn(u64, usize, usize) -> String, words: &[&str]) -> ExitCo
     match numbers.as_deref() {
         Some(&[seed, count, longest]) => write_out(lines(seed, count as usize, longest as usize).as_bytes()),
         _ => fail(USAGE),
+    }
+}
+
+// What a module says of a unit.
+fn write_of_unit(hex: &str, answer: impl Fn(&[u8]) -> Vec<u8>) -> ExitCode {
+    match show::unit_of(hex) {
+        Some(unit) => write_out(&answer(&unit)),
+        None => fail("not pairs of hexadecimal digits"),
     }
 }
 
