@@ -18,6 +18,12 @@ impl Pattern for u32 {
     }
 }
 
+impl Pattern for u64 {
+    fn at(place: usize, salt: u32) -> Self {
+        u64::from(u32::at(place, salt)) << 32 | u64::from(u32::at(place, !salt))
+    }
+}
+
 const GUARD: usize = 24;
 
 pub struct Guarded<T> {

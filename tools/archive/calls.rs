@@ -2,8 +2,8 @@
 // what it stores is in the buffers and numbers that the caller lends.
 
 use crate::declared::{
-    vps_ebsp_to_rbsp, vps_layer_page, vps_parse, vps_rbsp_to_ebsp, vps_section, vps_sentence, vps_sentence_number,
-    vps_write,
+    vps_bit_rate, vps_buffer_size, vps_ebsp_to_rbsp, vps_layer_page, vps_parse, vps_picture_interval, vps_rbsp_to_ebsp,
+    vps_section, vps_sentence, vps_sentence_number, vps_write,
 };
 
 // In each call the pointers and lengths are those of slices and numbers that live through it.
@@ -24,6 +24,18 @@ pub fn section(record: &[u32], number: u32, start: &mut u64, count: &mut u64) ->
 
 pub fn layer_page(record: &[u32], output: &mut [u8], length: &mut u64) -> u32 {
     unsafe { vps_layer_page(record.as_ptr(), record.len(), output.as_mut_ptr(), output.len(), length) }
+}
+
+pub fn bit_rate(record: &[u32], entry: u32, sublayer: u32, vcl: u32, schedule: u32, rate: &mut u64) -> u32 {
+    unsafe { vps_bit_rate(record.as_ptr(), record.len(), entry, sublayer, vcl, schedule, rate) }
+}
+
+pub fn buffer_size(record: &[u32], entry: u32, sublayer: u32, vcl: u32, schedule: u32, size: &mut u64) -> u32 {
+    unsafe { vps_buffer_size(record.as_ptr(), record.len(), entry, sublayer, vcl, schedule, size) }
+}
+
+pub fn picture_interval(record: &[u32], entry: u32, sublayer: u32, known: &mut u32, microseconds: &mut u64) -> u32 {
+    unsafe { vps_picture_interval(record.as_ptr(), record.len(), entry, sublayer, known, microseconds) }
 }
 
 pub fn ebsp_to_rbsp(source: &[u8], output: &mut [u8], length: &mut u64) -> u32 {

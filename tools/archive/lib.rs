@@ -2,8 +2,10 @@
 pub mod buffers;
 pub mod calls;
 pub mod cases;
+pub mod counts;
 #[path = "../../interface/rust/src/declared.rs"]
 mod declared;
+pub mod figures;
 pub mod pages;
 pub mod reading;
 pub mod report;

@@ -1,11 +1,12 @@
 // Layer pages: vps_layer_page against the second judge, which has the request written out (judge::page).
 use crate::buffers::Guarded;
 use crate::calls;
+use crate::counts::Paged;
 use crate::reading::around;
-use crate::report::{shown, Answer, Paged, Report};
+use crate::report::{shown, Answer, Report};
+use bitstream::h266::VvcVps;
 use judge::page::{sets_of_two_steps, Page, LINE_BYTES, MOST_LAYERS, MOST_SETS};
 use judge::random::Random;
-use judge::record::vps_of;
 use judge::structures::mode_of;
 
 // An output of so many bytes is long enough for every page.
@@ -23,10 +24,10 @@ impl Pages {
         Self { random: Random::new(seed), output: Guarded::new() }
     }
 
-    // The page of a list of which it is known whether it is well formed, with outputs of every length around the boundary
-    // and a longer one.
-    pub fn compare(&mut self, list: &[u32], well_formed: bool, report: &mut Report) {
-        let page = well_formed.then(|| paged(list, report));
+    // The page of a list, which is well formed if it has a structure, with outputs of every length around the boundary and a
+    // longer one.
+    pub fn compare(&mut self, list: &[u32], vps: Option<&VvcVps>, report: &mut Report) {
+        let page = vps.map(|v| paged(v, report));
         let exact = page.as_ref().map_or_else(|| self.some_lines(), |page| page.bytes.len());
         let longer = exact + 2 + self.random.below(2 * LINE_BYTES);
         for room in around(exact).into_iter().chain([longer]) {
@@ -65,13 +66,12 @@ impl Pages {
 }
 
 // What the judge prints for a well-formed list, counted by what it shows.
-fn paged(list: &[u32], report: &mut Report) -> Page {
-    let vps = vps_of(list).expect("a well-formed list has the layout");
-    let page = Page::of(&vps);
+fn paged(vps: &VvcVps, report: &mut Report) -> Page {
+    let page = Page::of(vps);
     report.paged(Paged::Page, 1);
     report.paged(Paged::MostLayers, usize::from(vps.layers.len() == MOST_LAYERS));
     report.paged(Paged::MostSets, usize::from(page.sets.len() == MOST_SETS));
     report.paged(Paged::Line, page.sets.len());
-    report.paged(Paged::LineOfTwoSteps, sets_of_two_steps(&vps, &page));
+    report.paged(Paged::LineOfTwoSteps, sets_of_two_steps(vps, &page));
     page
 }

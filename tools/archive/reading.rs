@@ -2,7 +2,8 @@
 // count, with the rules of this project for lengths and buffers (docs/DIFFERENCES.md).
 use crate::buffers::Guarded;
 use crate::calls;
-use crate::report::{shown, Answer, Report, Ruled};
+use crate::counts::Ruled;
+use crate::report::{shown, Answer, Report};
 use bitstream::nal::ebsp_to_rbsp;
 use judge::extension_rule::Judges;
 use judge::random::Random;

@@ -1,4 +1,5 @@
 // What was compared: counts by call and answer, and the differences.
+use crate::counts::{Figured, Paged, Ruled, Tally, LEAST};
 use judge::structures::{Mode, MODES, SHAPES};
 use std::collections::{BTreeMap, BTreeSet};
 
@@ -20,66 +21,11 @@ impl Answer {
     }
 }
 
-// What the second judge has an answer for. Set aside are units that the Rust refuses with 28 under extension flag 1, and
-// lists whose extension ends in 0; of other units with that flag both judges say the same.
-#[derive(Clone, Copy, PartialEq, Eq, PartialOrd, Ord)]
-pub enum Ruled {
-    UnitAccepted,
-    UnitRefused,
-    UnitOfBoth,
-    ListWritten,
-    ListRefused,
-}
-
-impl Ruled {
-    const ALL: [Ruled; 5] =
-        [Ruled::UnitAccepted, Ruled::UnitRefused, Ruled::UnitOfBoth, Ruled::ListWritten, Ruled::ListRefused];
-
-    // The input and the answer.
-    fn name(self) -> &'static str {
-        match self {
-            Ruled::UnitAccepted => "set aside: unit, 28 by the Rust under extension flag 1 | accepted",
-            Ruled::UnitRefused => "set aside: unit, 28 by the Rust under extension flag 1 | refused 28",
-            Ruled::UnitOfBoth => "not set aside: other unit with extension flag 1 | as the Rust's",
-            Ruled::ListWritten => "set aside: list whose extension ends in 0 | written",
-            Ruled::ListRefused => "set aside: list whose extension ends in 0 | refused 31",
-        }
-    }
-}
-
-// What layer pages that are right show.
-#[derive(Clone, Copy, PartialEq, Eq, PartialOrd, Ord)]
-pub enum Paged {
-    Page,
-    MostLayers,
-    MostSets,
-    Line,
-    LineOfTwoSteps,
-}
-
-impl Paged {
-    const ALL: [Paged; 5] = [Paged::Page, Paged::MostLayers, Paged::MostSets, Paged::Line, Paged::LineOfTwoSteps];
-
-    fn name(self) -> &'static str {
-        match self {
-            Paged::Page => "pages compared whole",
-            Paged::MostLayers => "pages of 64 layers",
-            Paged::MostSets => "pages of 257 sets",
-            Paged::Line => "lines",
-            Paged::LineOfTwoSteps => "lines with a layer that is two steps away or more",
-        }
-    }
-
-    // The fuzzer's units are too short for the longest pages.
-    fn is_of_short_units(&self) -> bool {
-        !matches!(self, Paged::MostLayers | Paged::MostSets)
-    }
-}
-
 #[derive(Default)]
 pub struct Report {
-    ruled: BTreeMap<Ruled, usize>,
-    paged: BTreeMap<Paged, usize>,
+    ruled: Tally<Ruled>,
+    paged: Tally<Paged>,
+    figured: Tally<Figured>,
     answers: BTreeMap<(&'static str, Answer), usize>,
     inputs: BTreeMap<(&'static str, &'static str), usize>,
     shapes: BTreeMap<&'static str, usize>,
@@ -89,8 +35,7 @@ pub struct Report {
 // So many differences are printed.
 const PRINTED: usize = 20;
 
-// So many calls of each answer there have to be; of refusal 1, for which there are few units, fewer.
-const LEAST: usize = 100;
+// Of refusal 1, for which there are few units, there have to be so many.
 const LEAST_OF_1: usize = 20;
 
 impl Report {
@@ -110,12 +55,17 @@ impl Report {
 
     // An input that the second judge has an answer for.
     pub fn ruled(&mut self, what: Ruled) {
-        *self.ruled.entry(what).or_default() += 1;
+        self.ruled.add(what, 1);
     }
 
     // So many of what pages show.
     pub fn paged(&mut self, what: Paged, count: usize) {
-        *self.paged.entry(what).or_default() += count;
+        self.paged.add(what, count);
+    }
+
+    // What a figure or its refusal shows.
+    pub fn figured(&mut self, what: Figured) {
+        self.figured.add(what, 1);
     }
 
     pub fn difference(&mut self, words: impl FnOnce() -> String) {
@@ -149,8 +99,7 @@ impl Report {
         for ((call, answer), count) in &self.answers {
             println!("| {call} | {} | {count} |", answer.name());
         }
-        self.print_ruled();
-        self.print_paged();
+        self.print_second_judge();
         let few = self.too_few();
         few.iter().for_each(|words| println!("TOO FEW: {words}"));
         println!("\ncalls {}, differences {}", self.answers.values().sum::<usize>(), self.differences);
@@ -158,39 +107,21 @@ impl Report {
     }
 
     // What was set aside, and what else the second judge has an answer for.
-    pub fn print_ruled(&self) {
-        println!("\n| The second judge on | Answer | Count |\n|---|---|---|");
-        Ruled::ALL.iter().for_each(|what| println!("| {} | {} |", what.name(), self.count_ruled(what)));
+    pub fn print_second_judge(&self) {
+        self.ruled.print();
+        self.paged.print();
+        self.figured.print();
     }
 
-    fn count_ruled(&self, what: &Ruled) -> usize {
-        self.ruled.get(what).copied().unwrap_or(0)
+    // What the second judge had too seldom, in short units alone or in all.
+    fn few_of_second_judge(&self, short_units: bool) -> Vec<String> {
+        [self.ruled.few(short_units), self.paged.few(short_units), self.figured.few(short_units)].concat()
     }
 
-    // What the second judge had too seldom.
-    pub fn few_ruled(&self) -> Vec<String> {
-        let few = Ruled::ALL.iter().filter(|what| self.count_ruled(what) < LEAST);
-        few.map(|what| format!("{}: {}", what.name(), self.count_ruled(what))).collect()
-    }
-
-    pub fn print_paged(&self) {
-        println!("\n| Layer pages | Count |\n|---|---|");
-        Paged::ALL.iter().for_each(|what| println!("| {} | {} |", what.name(), self.count_paged(what)));
-    }
-
-    fn count_paged(&self, what: &Paged) -> usize {
-        self.paged.get(what).copied().unwrap_or(0)
-    }
-
-    fn few_paged(&self, asked: impl Fn(&Paged) -> bool) -> Vec<String> {
-        let few = Paged::ALL.iter().filter(|what| asked(what) && self.count_paged(what) < LEAST);
-        few.map(|what| format!("{}: {}", what.name(), self.count_paged(what))).collect()
-    }
-
-    // What pages of short units had too seldom, the answers of each mode among them.
-    pub fn few_short_pages(&self) -> Vec<String> {
-        let answers = self.few_answers(page_answers());
-        answers.into_iter().chain(self.few_paged(Paged::is_of_short_units)).collect()
+    // What the second judge had too seldom in short units, the answers of what the Rust has not among them.
+    pub fn few_of_short_units(&self) -> Vec<String> {
+        let answers = self.few_answers([page_answers(), figure_answers()].concat());
+        answers.into_iter().chain(self.few_of_second_judge(true)).collect()
     }
 
     fn few_answers(&self, expected: Vec<(&'static str, Answer)>) -> Vec<String> {
@@ -204,8 +135,7 @@ impl Report {
         let mut few = self.few_answers(expected());
         let shown = |name| self.shapes.get(name).copied().unwrap_or(0);
         few.extend(SHAPES.iter().filter(|name| shown(*name) < LEAST).map(|name| format!("{name}: {}", shown(name))));
-        few.extend(self.few_ruled());
-        few.extend(self.few_paged(|_| true));
+        few.extend(self.few_of_second_judge(false));
         few
     }
 }
@@ -219,6 +149,7 @@ fn expected() -> Vec<(&'static str, Answer)> {
     all.extend((1..=30).map(|number| ("vps_parse", Answer::Refused(number))));
     all.extend([31, 32].map(|number| ("vps_write", Answer::Refused(number))));
     all.extend(page_answers());
+    all.extend(figure_answers());
     for call in ["vps_ebsp_to_rbsp", "vps_rbsp_to_ebsp", "vps_sentence"] {
         all.extend([(call, Answer::Success), (call, Answer::Refused(32))]);
     }
@@ -233,6 +164,12 @@ fn expected() -> Vec<(&'static str, Answer)> {
 fn page_answers() -> Vec<(&'static str, Answer)> {
     let refused = [31, 32].map(Answer::Refused);
     MODES.map(Answer::Of).into_iter().chain(refused).map(|answer| ("vps_layer_page", answer)).collect()
+}
+
+fn figure_answers() -> Vec<(&'static str, Answer)> {
+    let answers = [Answer::Success, Answer::Refused(31), Answer::Refused(33)];
+    let of_call = |call| answers.map(|answer| (call, answer));
+    ["vps_bit_rate", "vps_buffer_size", "vps_picture_interval"].into_iter().flat_map(of_call).collect()
 }
 
 // The first so many numbers of a list, as text.

@@ -1,11 +1,13 @@
-// Writing: vps_write against the Rust, which also says what is well formed (judge::record::written); against the second
+// Writing: vps_write against the Rust, which also says what is well formed (judge::record); against the second
 // judge of extension bits where they end in 0.
 use crate::buffers::Guarded;
 use crate::calls;
+use crate::counts::Ruled;
 use crate::reading::around;
-use crate::report::{shown, Answer, Report, Ruled};
+use crate::report::{shown, Answer, Report};
+use bitstream::h266::VvcVps;
 use judge::random::Random;
-use judge::record::{set_aside, written, written_by_rust};
+use judge::record::{set_aside, written_and_read, written_by_rust};
 use judge::show::hex_of;
 use judge::structures::mode_of;
 
@@ -21,9 +23,10 @@ impl Writer {
         Self { random: Random::new(seed), output: Guarded::new() }
     }
 
-    // The record with an output of one length, or of every length around the boundary. Gives the unit, if there is one.
-    pub fn compare(&mut self, record: &[u32], every: bool, report: &mut Report) -> Option<Vec<u8>> {
-        let unit = written(record);
+    // The record with an output of one length, or of every length around the boundary. Gives the structure that is read
+    // from the unit, if there is one.
+    pub fn compare(&mut self, record: &[u32], every: bool, report: &mut Report) -> Option<VvcVps> {
+        let (unit, vps) = written_and_read(record).unzip();
         count(record, unit.is_some(), report);
         let exact = unit.as_ref().map_or_else(|| self.random.below(2 * record.len() + 2), Vec::len);
         let lengths = match self.random.below(16) {
@@ -36,7 +39,7 @@ impl Writer {
         for length in lengths {
             self.call(record, unit.as_deref(), length, report);
         }
-        unit
+        vps
     }
 
     fn call(&mut self, record: &[u32], unit: Option<&[u8]>, room: usize, report: &mut Report) {

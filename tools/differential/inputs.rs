@@ -1,5 +1,5 @@
 // Units to compare: all short ones, units of every mode and size as they are written, damaged copies, random bytes, units
-// with many layers and sets, and units around the greatest length.
+// with many layers and sets, units whose figures are at their ends, and units around the greatest length.
 use bitstream::h266::{write_vps, VvcVps};
 use judge::draft::{unit_of_rbsp, Draft};
 use judge::extension_rule::{write_rbsp, write_unit};
@@ -66,6 +66,7 @@ impl Stream {
 pub struct Inputs {
     random: Random,
     maker: Maker,
+    small: Maker,
     streams: [Stream; 3],
     // units for damaged copies
     pool: Vec<Vec<u8>>,
@@ -78,6 +79,9 @@ const POOL: usize = 1_024;
 // One unit in so many has many layers or sets.
 const WIDE: usize = 256;
 
+// One unit in so many has figures at their ends.
+const EXTREME: usize = 256;
+
 // A long extension ends in at most so many zeros: in a run of zeros with a one among them the Rust takes time that grows
 // with the square of its length.
 const MOST_ZEROS: usize = 4_096;
@@ -86,8 +90,8 @@ impl Inputs {
     pub fn new(seed: u64) -> Self {
         let mut random = Random::new(seed);
         let streams = [64, 400, 4_096].map(|longest| Stream::new(random.number(), longest));
-        let maker = Maker { random: Random::new(random.number()), small: false };
-        Self { random, maker, streams, pool: Vec::new(), pending: VecDeque::new(), longs: 0 }
+        let [maker, small] = [false, true].map(|small| Maker { random: Random::new(random.number()), small });
+        Self { random, maker, small, streams, pool: Vec::new(), pending: VecDeque::new(), longs: 0 }
     }
 
     // The next unit of at most some four thousand bytes.
@@ -97,6 +101,9 @@ impl Inputs {
         }
         if self.random.below(WIDE) == 0 {
             return self.wide();
+        }
+        if self.random.below(EXTREME) == 0 {
+            return self.extreme();
         }
         match self.random.below(32) {
             0..=12 => self.of_stream(0),
@@ -127,6 +134,12 @@ impl Inputs {
         let rows = [1 + self.random.below(MOST_SETS - 1), MOST_SETS - 1, MOST_SETS - 1][self.random.below(3)];
         let v = self.maker.wide(mode, layers, rows);
         Input { unit: write_unit(&v).expect("the structure is written"), kind: "many layers and sets" }
+    }
+
+    fn extreme(&mut self) -> Input {
+        let mode = [Mode::Zero, Mode::One, Mode::TwoInferred, Mode::Two][self.random.below(4)];
+        let v = self.small.with_extreme_figures(mode);
+        Input { unit: write_unit(&v).expect("the structure is written"), kind: "figures at their ends" }
     }
 
     fn bytes(&mut self) -> Input {

@@ -1,9 +1,10 @@
 // The static archive against the Rust, over many units, records and byte strings: every number that a call returns or
 // stores and every lent buffer afterwards; and the sentences of the refusals that were met. What is set aside, extension
-// bits that end in 0, is held to the second judge, and so are layer pages. Ends with 1 if anything differs or if an answer
-// was met too seldom.
+// bits that end in 0, is held to the second judge, and so are layer pages, rates, sizes and intervals. Ends with 1 if anything
+// differs or if an answer was met too seldom.
 mod inputs;
 
+use archive::figures::Figures;
 use archive::pages::Pages;
 use archive::reading::{Judged, Reader};
 use archive::report::Report;
@@ -65,6 +66,7 @@ struct Run {
     reader: Reader,
     writer: Writer,
     pages: Pages,
+    figures: Figures,
     sections: Sections,
     stuffing: Stuffing,
     report: Report,
@@ -77,9 +79,10 @@ impl Run {
         let mut random = Random::new(seed);
         let mut next = || random.number();
         let (inputs, reader, writer) = (Inputs::new(next()), Reader::new(next()), Writer::new(next()));
-        let (sections, stuffing, pages) = (Sections::new(next()), Stuffing::new(next()), Pages::new(next()));
+        let (sections, stuffing) = (Sections::new(next()), Stuffing::new(next()));
+        let (pages, figures) = (Pages::new(next()), Figures::new(next()));
         let (report, records) = (Report::default(), Vec::new());
-        Self { random, inputs, reader, writer, pages, sections, stuffing, report, records }
+        Self { random, inputs, reader, writer, pages, figures, sections, stuffing, report, records }
     }
 
     // All short units, and then so many in all.
@@ -118,13 +121,14 @@ impl Run {
         }
     }
 
-    // A list of numbers, well formed or not: written, its page, and its sections.
+    // A list of numbers, well formed or not: written, its page, its figures, and its sections.
     fn list(&mut self, kind: &'static str, list: &[u32], every: bool) {
         self.report.input("list", kind);
-        let unit = self.writer.compare(list, every, &mut self.report);
-        self.pages.compare(list, unit.is_some(), &mut self.report);
+        let vps = self.writer.compare(list, every, &mut self.report);
+        self.pages.compare(list, vps.as_ref(), &mut self.report);
+        self.figures.compare(list, vps.as_ref(), &mut self.report);
         if every || self.random.below(4) == 0 {
-            self.sections.compare(list, unit.is_some(), &mut self.report);
+            self.sections.compare(list, vps.is_some(), &mut self.report);
         }
     }
 

@@ -1,9 +1,11 @@
 // A coverage-guided fuzz target over the static archive, with the Rust as judge in the same process, and the second judge
-// for extension bits and layer pages. An input's first byte chooses the lengths of the buffers, the rest is a unit; whatever
-// differs ends the run. What the second judge had is printed at the end, which is a failure if it was too little.
+// for extension bits, layer pages, rates, sizes and intervals. An input's first byte chooses the lengths of the buffers, the
+// rest is a unit; whatever differs ends the run. What the second judge had is printed at the end, which is a failure if it
+// was too little.
 #![no_main]
 mod traps;
 
+use archive::figures::Figures;
 use archive::pages::Pages;
 use archive::reading::{Judged, Reader};
 use archive::report::Report;
@@ -48,9 +50,8 @@ pub extern "C" fn LLVMFuzzerTestOneInput(data: *const u8, size: usize) -> i32 {
 
 extern "C" fn say_second_judge() {
     let report = REPORT.lock().expect("no input is compared at the end");
-    report.print_ruled();
-    report.print_paged();
-    let few = [report.few_ruled(), report.few_short_pages()].concat();
+    report.print_second_judge();
+    let few = report.few_of_short_units();
     few.iter().for_each(|words| println!("TOO FEW: {words}"));
     if !few.is_empty() {
         // Nothing is left to be done but to end with a failure.
@@ -66,9 +67,10 @@ fn compare(seed: u64, unit: &[u8], report: &mut Report) {
         let other = changed(&mut Random::new(seed), &record);
         let chosen = changed_by(&record, unit);
         for list in [record, other, chosen] {
-            let written = Writer::new(seed).compare(&list, seed == 255, report);
-            Pages::new(seed).compare(&list, written.is_some(), report);
-            Sections::new(seed).compare(&list, written.is_some(), report);
+            let vps = Writer::new(seed).compare(&list, seed == 255, report);
+            Pages::new(seed).compare(&list, vps.as_ref(), report);
+            Figures::new(seed).compare(&list, vps.as_ref(), report);
+            Sections::new(seed).compare(&list, vps.is_some(), report);
         }
     }
 }

@@ -35,11 +35,17 @@ pub fn structure_of(unit: &[u8]) -> Option<VvcVps> {
 // The bytes of a well-formed record, or nothing. The Rust's writer accepts more than 01 calls well formed; a list is
 // well formed if it has the layout, it is written in at most 65,535 bytes of RBSP, and reading that gives the list.
 pub fn written(list: &[u32]) -> Option<Vec<u8>> {
+    written_and_read(list).map(|(unit, _)| unit)
+}
+
+// The bytes, and the structure that reading them gives.
+pub fn written_and_read(list: &[u32]) -> Option<(Vec<u8>, VvcVps)> {
     let vps = vps_of(list)?;
     let rbsp = write_rbsp(&vps).ok()?;
     let unit = write_unit(&vps).ok()?;
-    let same = read(&unit) == Reading::Accepted { record: list.to_vec(), bits_used: 8 * rbsp.len() };
-    (rbsp.len() <= 65_535 && same).then_some(unit)
+    let (back, bits_used) = found(&unit).ok()?;
+    let same = record_of(&back) == list && bits_used == 8 * rbsp.len();
+    (rbsp.len() <= 65_535 && same).then_some((unit, back))
 }
 
 // Whether a list is written, or refused, by the second judge: it has the layout, and its extension ends in 0.
@@ -243,7 +249,7 @@ impl Numbers<'_> {
 }
 
 // The Rust's structure of a list that has the layout. Nothing is checked but that its numbers have a place there.
-pub fn vps_of(record: &[u32]) -> Option<VvcVps> {
+fn vps_of(record: &[u32]) -> Option<VvcVps> {
     let mut r = Numbers { rest: record };
     let n = r.count()?;
     let mut v = VvcVps {

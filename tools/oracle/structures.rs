@@ -149,6 +149,41 @@ impl Maker {
         v
     }
 
+    // With timing whose figures are at their ends: the greatest rates, sizes and intervals, or intervals of 1 microsecond or
+    // just below.
+    pub fn with_extreme_figures(&mut self, mode: Mode) -> VvcVps {
+        let mut v = self.structure(mode);
+        let mut timing = self.timing(&v, sets(&v).1);
+        let g = &mut timing.general;
+        let elemental = if self.one_in(2) { 2047 } else { self.random.below(2048) as u32 };
+        (g.num_units_in_tick, g.time_scale) = match self.random.below(3) {
+            0 => (u32::MAX, 1),
+            above => (1, 1_000_000 * (elemental + 1) + above as u32 - 1),
+        };
+        if g.any_hrd_present() {
+            (g.bit_rate_scale, g.cpb_size_scale) = (15, 15);
+        }
+        for s in timing.entries.iter_mut().flat_map(|e| &mut e.ols.sublayers) {
+            self.extreme_sublayer(s, elemental);
+        }
+        v.timing_hrd = Some(timing);
+        v
+    }
+
+    fn extreme_sublayer(&mut self, s: &mut VvcOlsTimingHrdSublayer, elemental: u32) {
+        if s.fixed_pic_rate_within_cvs_flag == 1 {
+            s.elemental_duration_in_tc_minus1 = elemental;
+        }
+        for schedule in s.nal_hrd.iter_mut().chain(&mut s.vcl_hrd).flat_map(|list| &mut list.schedules) {
+            if self.one_in(2) {
+                schedule.bit_rate_value_minus1 = u32::MAX - 1;
+            }
+            if self.one_in(2) {
+                schedule.cpb_size_value_minus1 = u32::MAX - 1;
+            }
+        }
+    }
+
     // The highest of the layers that are referred to stays, and now and then another.
     fn few_references(&mut self, l: &mut VvcVpsLayer, inferred: u8) {
         let highest = l.vps_direct_ref_layer_flag.iter().rposition(|&flag| flag == 1);

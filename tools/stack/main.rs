@@ -4,7 +4,8 @@ use archive::calls;
 use archive::cases::{cases, growth};
 use archive::pages::MOST_PAGE;
 use archive::sentences::MOST_SENTENCE;
-use bitstream::h266::{parse_vps, write_vps_nal};
+use bitstream::h266::{parse_vps, write_vps_nal, VvcVps};
+use judge::figures::{schedules, Item, NAL};
 use judge::random::Random;
 use judge::record::{read, structure_of, Reading};
 use judge::units::Units;
@@ -127,12 +128,32 @@ impl Depths {
         self.call("vps_layer_page", || {
             black_box(calls::layer_page(record, &mut page, &mut a));
         });
+        self.figures(record, &vps);
         self.call("the Rust's write_vps_nal", || {
             let _ = black_box(write_vps_nal(&vps));
         });
         for number in 0..10 {
             self.call("vps_section", || {
                 black_box(calls::section(record, number, &mut a, &mut b));
+            });
+        }
+    }
+
+    // The figures of the first schedule and of the last, or of a missing one where there is none.
+    fn figures(&mut self, record: &[u32], vps: &VvcVps) {
+        let there = schedules(vps);
+        let missing = Item { entry: 0, sublayer: 0, kind: NAL, schedule: 0 };
+        let (mut known, mut figure) = (0, 0);
+        for item in [there.first(), there.last()] {
+            let &Item { entry, sublayer, kind, schedule } = item.unwrap_or(&missing);
+            self.call("vps_bit_rate", || {
+                black_box(calls::bit_rate(record, entry, sublayer, kind, schedule, &mut figure));
+            });
+            self.call("vps_buffer_size", || {
+                black_box(calls::buffer_size(record, entry, sublayer, kind, schedule, &mut figure));
+            });
+            self.call("vps_picture_interval", || {
+                black_box(calls::picture_interval(record, entry, sublayer, &mut known, &mut figure));
             });
         }
     }
