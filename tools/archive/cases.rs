@@ -53,6 +53,11 @@ pub fn by_sets() -> Vec<Case> {
     ]
 }
 
+// 64 layers, and for their 63 sets of several layers so many timing entries, each of the same shape.
+pub fn with_entries(entries: usize) -> Case {
+    Case::new(format!("64 layers, entries {entries}"), timed(64, entries, 4))
+}
+
 // Units with so many bytes of RBSP behind the extension flag, by what these bytes are.
 pub fn long_extensions(count: usize) -> [(&'static str, Vec<u8>); 4] {
     let zeros_and = |last: u8| [vec![0; count - 1], vec![last]].concat();
@@ -161,36 +166,40 @@ fn with_rows(rows: usize) -> VvcVps {
     with_buffers(v, rows + 1, rows)
 }
 
-// Mode 0 with so many timing entries, one for each set of several layers: seven sublayers, 32 schedules of both kinds
-// with DU numbers.
+// Mode 0 with a timing entry for each set of several layers, and 32 schedules of both kinds.
 fn with_timing(entries: usize) -> VvcVps {
+    timed(entries + 1, entries, 32)
+}
+
+// Mode 0 with so many layers and timing entries: seven sublayers, each with so many schedules of both kinds with DU numbers.
+fn timed(layers: usize, entries: usize, schedules: u32) -> VvcVps {
     let mut random = Random::new(4);
-    let mut v = layered(entries + 1, 7);
+    let mut v = layered(layers, 7);
     v.vps_ols_mode_idc = 0;
-    let mut v = with_buffers(v, entries + 1, entries);
+    let mut v = with_buffers(v, layers, layers - 1);
     let general = VvcGeneralTimingHrd {
         num_units_in_tick: 1_001,
         time_scale: 60_000,
         general_nal_hrd_params_present_flag: 1,
         general_vcl_hrd_params_present_flag: 1,
         general_du_hrd_params_present_flag: 1,
-        hrd_cpb_cnt_minus1: 31,
+        hrd_cpb_cnt_minus1: schedules - 1,
         ..Default::default()
     };
     let entry = |random: &mut Random| VvcVpsOlsHrd {
         vps_hrd_max_tid: 6,
-        ols: VvcOlsTimingHrd { sublayers: (0..7).map(|_| timing_sublayer(random)).collect() },
+        ols: VvcOlsTimingHrd { sublayers: (0..7).map(|_| timing_sublayer(random, schedules)).collect() },
     };
     v.timing_hrd = Some(VvcVpsTimingHrd {
         general,
         vps_sublayer_cpb_params_present_flag: 1,
         entries: (0..entries).map(|_| entry(&mut random)).collect(),
-        vps_ols_timing_hrd_idx: (0..entries as u32).collect(),
+        vps_ols_timing_hrd_idx: (0..layers - 1).map(|i| (i % entries) as u32).collect(),
     });
     v
 }
 
-fn timing_sublayer(random: &mut Random) -> VvcOlsTimingHrdSublayer {
+fn timing_sublayer(random: &mut Random, count: u32) -> VvcOlsTimingHrdSublayer {
     let mut schedules = || {
         let schedule = |random: &mut Random| VvcCpbSchedule {
             bit_rate_value_minus1: random.of_width(8),
@@ -198,7 +207,7 @@ fn timing_sublayer(random: &mut Random) -> VvcOlsTimingHrdSublayer {
             du_values_minus1: Some((random.of_width(8), random.of_width(8))),
             cbr_flag: random.below(2) as u8,
         };
-        Some(VvcSublayerHrd { schedules: (0..32).map(|_| schedule(random)).collect() })
+        Some(VvcSublayerHrd { schedules: (0..count).map(|_| schedule(random)).collect() })
     };
     VvcOlsTimingHrdSublayer {
         fixed_pic_rate_general_flag: 1,

@@ -1,10 +1,11 @@
 // Times the static archive beside the Rust: the same units, one driver, batches in turn, medians over many rounds.
 use archive::calls;
-use archive::cases::{by_sets, cases, growth, long_extensions, Case};
+use archive::cases::{by_sets, cases, growth, long_extensions, with_entries, Case};
 use archive::sentences::MOST_SENTENCE;
 use bitstream::h266::{parse_vps, write_vps_nal};
 use bitstream::nal::{ebsp_to_rbsp, rbsp_to_ebsp};
 use judge::extension_rule::found_by_rule;
+use judge::figures::{bit_rate, buffer_size, picture_interval, schedules, Item};
 use judge::page::{Page, LINE_BYTES};
 use judge::record::{record_of, Reading};
 use judge::show::unit_of;
@@ -25,6 +26,7 @@ fn main() -> ExitCode {
         [word] if word == "sentences" => return sentences(),
         [word] if word == "page" => return pages(),
         [word] if word == "extension" => return extensions(),
+        [word] if word == "figures" => return figures(),
         [side, call, name, count] => repeat(side, call, name, count.parse().expect("a number")),
         _ => return ExitCode::from(2),
     }
@@ -162,6 +164,66 @@ fn reading_as_ruled(unit: &[u8]) -> impl FnMut() + '_ {
     assert_eq!(length, record.len() as u64, "as many numbers as the second judge reads");
     assert!(Reading::Accepted { record, bits_used: bits as usize } == ruled, "as the second judge reads it");
     our_reading(unit, length as usize)
+}
+
+// ── Figures, which the Rust has not, by the timing entries ──────────────
+
+// Twice as many timing entries may take at most so many times as long: the numbers before them are as many as before.
+const MOST_ENTRY_GROWTH: f64 = 2.5;
+
+// A call for an item of a record: the number and the figure.
+type Ask = fn(&[u32], Item) -> (u32, u64);
+
+fn figures() -> ExitCode {
+    println!("| Last figure | 30 entries, ns | 60 entries, ns | Ratio |\n|---|---|---|---|");
+    let cases = [30, 60].map(with_entries);
+    let asks: [(&str, Ask); 3] = [("rate", our_rate), ("size", our_size), ("interval", our_interval)];
+    let ratios = asks.map(|(name, ask)| figure_row(name, ask, &cases));
+    println!("\nat most {MOST_ENTRY_GROWTH}");
+    if ratios.iter().all(|ratio| *ratio <= MOST_ENTRY_GROWTH) {
+        ExitCode::SUCCESS
+    } else {
+        ExitCode::FAILURE
+    }
+}
+
+fn figure_row(name: &str, ask: Ask, cases: &[Case; 2]) -> f64 {
+    let [mut fewer, mut more] = cases.each_ref().map(|case| asking_for_the_last(name, ask, case));
+    let (short_time, long_time) = in_turns(&mut fewer, &mut more);
+    let ratio = long_time / short_time;
+    println!("| {name} | {short_time:.0} | {long_time:.0} | {ratio:.2} |");
+    ratio
+}
+
+// The call for the last schedule or its sublayer, once it has given what the second judge gives.
+fn asking_for_the_last<'a>(name: &str, ask: Ask, case: &'a Case) -> impl FnMut() + use<'a> {
+    let record = record_of(&case.vps);
+    let last = *schedules(&case.vps).last().expect("there are schedules");
+    let judged = match name {
+        "rate" => bit_rate(&case.vps, last).ok(),
+        "size" => buffer_size(&case.vps, last).ok(),
+        _ => picture_interval(&case.vps, last.entry, last.sublayer).ok().flatten(),
+    };
+    let (number, figure) = ask(&record, last);
+    assert_eq!((number, Some(u128::from(figure))), (0, judged), "as the second judge says");
+    move || {
+        black_box(ask(black_box(&record), last));
+    }
+}
+
+fn our_rate(record: &[u32], item: Item) -> (u32, u64) {
+    let mut rate = 0;
+    (calls::bit_rate(record, item.entry, item.sublayer, item.kind, item.schedule, &mut rate), rate)
+}
+
+fn our_size(record: &[u32], item: Item) -> (u32, u64) {
+    let mut size = 0;
+    (calls::buffer_size(record, item.entry, item.sublayer, item.kind, item.schedule, &mut size), size)
+}
+
+fn our_interval(record: &[u32], item: Item) -> (u32, u64) {
+    let (mut known, mut microseconds) = (0, 0);
+    (calls::picture_interval(record, item.entry, item.sublayer, &mut known, &mut microseconds), microseconds)
 }
 
 // ── One side alone, for a profiler ──────────────────────────────────────
