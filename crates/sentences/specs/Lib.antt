@@ -3,3 +3,4 @@ pub mod Words
 pub mod Laws
 pub mod Cases
 pub mod Named
+pub mod Refused

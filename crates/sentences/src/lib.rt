@@ -1,4 +1,4 @@
-// The sentence of each refusal, three words, and the number back from the sentence alone.
+// The sentence of each refusal, three words, and the number back from the sentence alone; and the line that says a number alone.
 #![tactic(auto)]
 
 ghost use Rattle.std.specs.Prelude.{◌↔◌, ◌≡◌, ◌∷◌, map, IsTrue};
@@ -8,8 +8,10 @@ ghost use Rattle.refusals.specs.Refusals as Refusals;
 ghost use Rattle.texts.specs.Adds.{Adds};
 ghost use Rattle.sentences.specs.Sentences.{words_of, blank, sentence_of, number_of};
 ghost use Rattle.sentences.specs.Named.{found_number};
+ghost use Rattle.sentences.specs.Refused.{refused_text};
 
 use refusals::Refusal;
+use text_numbers::put_decimal;
 use texts::Text;
 
 // The last number that has a sentence.
@@ -87,6 +89,15 @@ pub fn put_sentence(text: &mut Text, number: u32)
     if let Ok(refusal) = Refusal::try_from(number) {
         put_words(text, refusal);
     }
+}
+
+// `refused` and the number of a refusal, on a line.
+pub fn put_refused(text: &mut Text, refusal: Refusal)
+    ensures { Adds (refused_text (Refusals.number_of refusal)) text.old text.new }
+{
+    text.put(b"refused ");
+    put_decimal(text, refusal.number() as u64);
+    text.put(b"\n");
 }
 
 // A refusal's sentence into a lent output: how many bytes were written; those behind them are as before. A refusal leaves the output

@@ -3,9 +3,10 @@ use Rattle.std.specs.Prelude.{ℕ, ◌≡◌, refl, List, [], ◌∷◌, ◌++�
 use Rattle.texts.specs.Bytes.{bytes}
 use Rattle.text_numbers.specs.Decimal.{decimal_in}
 use Rattle.text_numbers.specs.Aligned.{right_aligned}
+use Rattle.sentences.specs.Refused.{refused_text}
 use Rattle.vps_definition.specs.Open.{opened}
 use Rattle.layer_page.specs.Page.{place, places, columns, line, set_line, set_lines, page_of}
-use Rattle.vps_page.specs.Printed.{reading_page, unit_page, refused_text, printed, page_text}
+use Rattle.vps_page.specs.Printed.{reading_page, unit_page, printed, page_text}
 
 -- the units of samples/: one layer, output layer sets by rows, and damaged
 pub one_layer : List ℕ

@@ -1,9 +1,8 @@
 -- What vps-page prints for a unit: its layer page, or `refused` and the number.
-use Rattle.std.specs.Prelude.{ℕ, List, ◌++◌}
+use Rattle.std.specs.Prelude.{ℕ, List}
 use Rattle.refusals.specs.Answer.{Answer}
 use Rattle.refusals.specs.Answer.Answer.{success, refusal}
-use Rattle.texts.specs.Bytes.{bytes}
-use Rattle.text_numbers.specs.Decimal.{decimal}
+use Rattle.sentences.specs.Refused.{refused_text}
 use Rattle.vps_definition.specs.Reading.{Reading, read_unit}
 use Rattle.vps_definition.specs.Reading.Reading.{accepts, refuses}
 use Rattle.layer_page.specs.Page.{page_of}
@@ -15,9 +14,6 @@ reading_page (refuses k) = refusal k
 
 unfoldable pub unit_page : (unit : List ℕ) → Answer (List ℕ)
 unit_page u = reading_page (read_unit u)
-
-unfoldable pub refused_text : (number : ℕ) → List ℕ
-refused_text k = bytes "refused " ++ decimal k ++ bytes "\n"
 
 unfoldable pub printed : Answer (List ℕ) → List ℕ
 printed (success page) = page

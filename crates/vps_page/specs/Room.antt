@@ -8,12 +8,13 @@ use Rattle.refusals.specs.Lent.{lent, output_after}
 use Rattle.lists.specs.Stored.{overlaid}
 use Rattle.texts.specs.Bytes.{bytes}
 use Rattle.text_numbers.specs.Decimal.{places_most}
+use Rattle.sentences.specs.Refused.{refused_text}
 use Rattle.vps_definition.specs.Reading.{Reading, read_unit}
 use Rattle.vps_definition.specs.Reading.Reading.{accepts, refuses}
 use Rattle.vps_laws.proofs.Promises.{accepted_is_written}
 use Rattle.vps_writer.specs.Write.{write_of, output_of}
 use Rattle.layer_page.specs.Answers.{page_most}
-use Rattle.vps_page.specs.Printed.{reading_page, unit_page, refused_text, printed, page_text}
+use Rattle.vps_page.specs.Printed.{reading_page, unit_page, printed, page_text}
 
 -- 257 lines of 72 bytes
 abbrev pub text_bytes : ℕ

@@ -2,15 +2,13 @@
 #![tactic(auto)]
 
 ghost use Rattle.std.specs.Prelude.{◌≡◌, take};
-ghost use Rattle.refusals.specs.Refusals.{answer_of, number_of};
+ghost use Rattle.refusals.specs.Refusals.{answer_of};
 ghost use Rattle.lists.specs.Stored.{overlaid};
-ghost use Rattle.texts.specs.Adds.{Adds};
 ghost use Rattle.vps_writer.specs.Write.{write_of, output_of};
-ghost use Rattle.vps_page.specs.Printed.{unit_page, refused_text, page_text};
+ghost use Rattle.vps_page.specs.Printed.{unit_page, page_text};
 
 use layer_page::layer_page;
 use refusals::Refusal;
-use text_numbers::put_decimal;
 use texts::Text;
 use vps_reader::parse_vps;
 
@@ -43,15 +41,6 @@ fn unit_page(unit: &[u8], output: &mut [u8]) -> Result<usize, Refusal>
     }
 }
 
-// `refused` and the number of a refusal.
-fn put_refused(text: &mut Text, refusal: Refusal)
-    ensures { Adds (refused_text (number_of refusal)) text.old text.new }
-{
-    text.put(b"refused ");
-    put_decimal(text, refusal.number() as u64);
-    text.put(b"\n");
-}
-
 // The text for a unit, whole, in a room for every text; the bytes behind it are unchanged.
 fn page_text<'a>(unit: &[u8], room: &'a mut [u8; TEXT_BYTES]) -> Text<'a>
     ensures value { take result.place result.bytes.now ≡ page_text unit.now }
@@ -61,7 +50,7 @@ fn page_text<'a>(unit: &[u8], room: &'a mut [u8; TEXT_BYTES]) -> Text<'a>
         Ok(length) => Text::at(room, length),
         Err(refusal) => {
             let mut text = Text::at(room, 0);
-            put_refused(&mut text, refusal);
+            sentences::put_refused(&mut text, refusal);
             text
         }
     }

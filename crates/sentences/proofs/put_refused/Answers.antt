@@ -3,8 +3,8 @@ use Rattle.std.proofs.Common.{ap}
 use Rattle.texts.specs.Bytes.{bytes}
 use Rattle.texts.specs.Adds.{adds_same, adds_then}
 use Rattle.text_numbers.specs.Decimal.{decimal}
-use Rattle.vps_page.specs.Printed.{refused_text}
-use Rattle.vps_page.proofs.put_refused.Goals as goal
+use Rattle.sentences.specs.Refused.{refused_text}
+use Rattle.sentences.proofs.put_refused.Goals as goal
 
 pub returns : goal.returns
 unfolding refused_text bytes
