@@ -96,9 +96,9 @@ impl Figures {
             let behind = self.first(entry, stored_sublayers(timing, e));
             asked.extend([(Figure::Interval, behind), self.either_of(behind)]);
         }
+        let ends = [NAL, VCL].map(|kind| (kind, schedule_count(timing, kind).unwrap_or(0)));
         for (entry, sublayer) in sublayers(v) {
-            for kind in [NAL, VCL, VCL + 1] {
-                let schedule = schedule_count(timing, kind).unwrap_or(0);
+            for (kind, schedule) in ends.into_iter().chain([(VCL + 1, 0)]) {
                 asked.push(self.either_of(Item { entry, sublayer, kind, schedule }));
             }
         }
