@@ -1,11 +1,11 @@
 -- The rate and the size field of every schedule of a well-formed record are at most 2 ^ 32 - 2, as coded numbers are.
-use Rattle.std.specs.Prelude.{ℕ, zero, suc, ◌+◌, ◌*◌, ◌-◌, ◌^◌, ◌≤◌, ◌<◌, ◌≡◌, refl, List, [], ◌∷◌, Bool, true, false, cond, ltb, eqb, length, get_or, drop}
-use Rattle.std.proofs.Common.{sym, ap, ◌∙◌, arith, lit<, ltb-true}
+use Rattle.std.specs.Prelude.{ℕ, suc, ◌+◌, ◌*◌, ◌-◌, ◌^◌, ◌≤◌, ◌<◌, ◌≡◌, refl, List, Bool, true, false, cond, ltb, length, get_or}
+use Rattle.std.proofs.Common.{sym, ◌∙◌, arith, lit<, ltb-true}
 use Rattle.std.proofs.Math.Pow.{pow_mono}
 use Rattle.std.proofs.Math.Nat.{two-pow-succ, one-le-pow}
 use Rattle.refusals.specs.Number.{code_too_long}
 use Rattle.bits.specs.Bits.{field_at}
-use Rattle.bits.specs.Code.{Taken, zeros_at, code_behind, code_at}
+use Rattle.bits.specs.Code.{zeros_at, code_behind, code_at}
 use Rattle.bits.specs.Code.Taken.{taken, refused}
 use Rattle.bits.specs.FieldLaws.{field_lt}
 use Rattle.vps_definition.specs.Syntax.{Token, run, keeping}
@@ -13,18 +13,18 @@ use Rattle.vps_definition.specs.Syntax.Token.{number}
 use Rattle.vps_definition.specs.Syntax.Syntax.{done}
 use Rattle.vps_definition.specs.Syntax.Outcome.{accepted}
 use Rattle.vps_definition.specs.Words.{ue}
-use Rattle.vps_definition.specs.TimingHrd.{Hrd, schedule}
+use Rattle.vps_definition.specs.TimingHrd.{schedule}
 use Rattle.vps_definition.specs.Writing.{well_formed}
 use Rattle.vps_definition.specs.Layout.{timing_flag, timing_count}
 use Rattle.vps_definition.specs.Views.{hrd_of, sublayer_count}
 use Rattle.vps_laws.specs.Inversion.{code_accepted, keeping_accepted}
-use Rattle.vps_laws.specs.Keeps.{Keeps, keeps_both, keeps_ue}
+use Rattle.vps_laws.specs.Keeps.{Keeps, keeps_ue}
 use Rattle.vps_laws.specs.Indices.{long_ue}
 use Rattle.vps_laws.specs.Places.{ReadAt, read_keeps, read_first, long_passes, get_drop}
 use Rattle.vps_laws.proofs.Places.{read_both}
 use Rattle.record_timing.specs.declared.schedule.Kind.{Kind}
 use Rattle.record_timing.specs.declared.schedule.Kind.TheVariants.{Nal, Vcl}
-use Rattle.record_timing.specs.Timing.{flag_of, schedule_count, schedule_at}
+use Rattle.record_timing.specs.Timing.{flag_of, schedule_at}
 use Rattle.record_timing.specs.Few.{viewed}
 
 code_small : (s : List ℕ) (at v next : ℕ) → code_at s at ≡ taken v next → v < 4294967295

@@ -13,9 +13,8 @@ use Rattle.vps_definition.specs.Layout.{timing_flag, timing_count}
 use Rattle.vps_definition.specs.Views.{hrd_of, units_in_tick, time_scale, bit_rate_scale, cpb_size_scale, sublayer_count, sublayer_at}
 use Rattle.record_timing.specs.declared.schedule.Kind.{Kind}
 use Rattle.record_timing.specs.Timing.{flag_of, schedule_count, schedule_at, has_timing, has_entry, has_sublayer, has_schedule, lacks}
-use Rattle.record_timing.specs.Few.{viewed, sublayer_numbered}
+use Rattle.record_timing.specs.Few.{viewed}
 use Rattle.link_figures.specs.Figures.{bit_rate_of, cpb_size_of, microseconds_of, interval_of, rate_at, size_at, interval_at, bit_rate, buffer_size, picture_interval}
-use Rattle.link_figures.specs.Bounds.{microseconds_most}
 use Rattle.link_figures.proofs.Fields.{Fields, fields}
 
 -- ── What a record has ─────────────────────────────────────────────────

@@ -1,3 +1,4 @@
 pub mod Figures
 pub mod Bounds
 pub mod Found
+pub mod Cases
