@@ -4,3 +4,4 @@ pub mod Written
 pub mod Turns
 pub mod Room
 pub mod Reads
+pub mod Cases
