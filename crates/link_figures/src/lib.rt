@@ -21,6 +21,7 @@ pub fn rate_of(schedule: &Schedule) -> u64
 }
 
 // Its buffer size, in bits.
+// As it is (2): another field and another scale than those of the bit rate; what the two share is one line.
 pub fn size_of(schedule: &Schedule) -> u64
     ensures { result ≡ size_in schedule.now }
 {
@@ -56,6 +57,7 @@ pub fn bit_rate(
 }
 
 // The buffer size of a schedule of a record, in bits, and refusals likewise.
+// As it is (2): the figure of another field; both find the schedule by `Schedule::of`.
 // As it is (5): an item is named as for `bit_rate`.
 pub fn buffer_size(
     record: &[u32],

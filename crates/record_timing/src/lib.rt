@@ -199,7 +199,7 @@ impl<'a> RecordTiming<'a> {
     }
 
     // The numbers from entry e on; behind the last entry, from the indices on.
-    fn from_entry(&self, e: u32) -> &'a [u32]
+    fn entry_numbers(&self, e: u32) -> &'a [u32]
         ensures { result.now ≡ timing_entry self.now.«record».now e }
     {
         let mut numbers = lists::behind(self.numbers(), RecordTiming::ENTRIES);
@@ -220,7 +220,7 @@ impl<'a> RecordTiming<'a> {
         Some(Entry {
             timing: self,
             index: e,
-            numbers: self.from_entry(e),
+            numbers: self.entry_numbers(e),
         })
     }
 }

@@ -33,6 +33,7 @@ impl<'a> Sublayer<'a> {
     }
 
     // The sublayer behind it; none behind the entry's last one.
+    // As it is (2): a schedule is found by its list too, and another type is given.
     pub fn next(self) -> Option<Sublayer<'a>>
         ensures there { is_some result ≡ ltb (self.entry.index + 1) (sublayer_count self.entry.entry.timing.«record».now self.entry.entry.index) }
         ensures is { IfSome result (IsSublayer self.entry.entry.timing.«record».now self.entry.entry.index (self.entry.index + 1)) }
@@ -41,6 +42,7 @@ impl<'a> Sublayer<'a> {
     }
 
     // Number i of it.
+    // As it is (2): numbers of a sublayer, where `RecordTiming` has those behind the timing flag.
     // As it is (6): the place is what is asked, as of `record_parts::number_at`.
     fn number(&self, i: usize) -> u32
         ensures { result ≡ get_or (sublayer_at self.now.entry.timing.«record».now self.now.entry.index self.now.index) i 0 }

@@ -26,6 +26,7 @@ fn write_sublayer_line<W: Write>(out: &mut W, sublayer: &Sublayer) -> Result<()>
     out.write_all(line.so_far())
 }
 
+// As it is (2): the line of another type; what is written is put together by another function.
 fn write_schedule<W: Write>(out: &mut W, schedule: &Schedule) -> Result<()>
     ensures { OnOk result (Appends (W.contents out.old) (W.contents out.new) (schedule_line schedule.now.sublayer.entry.index schedule.now.sublayer.index schedule.now.kind schedule.now.index (rate_in schedule.now) (size_in schedule.now))) }
 {

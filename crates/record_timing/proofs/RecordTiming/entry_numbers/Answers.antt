@@ -2,7 +2,7 @@
 use Rattle.std.proofs.Common.{◌∙◌, rules, arith}
 use Rattle.vps_definition.specs.Views.{again, timing_entry}
 use Rattle.record_timing.specs.Few.{entry_next}
-use Rattle.record_timing.proofs.RecordTiming.from_entry.Goals as goal
+use Rattle.record_timing.proofs.RecordTiming.entry_numbers.Goals as goal
 
 pub loop-init : goal.loop-init
 unfolding timing_entry again
