@@ -133,6 +133,6 @@ output_too_short = 32
 abbrev pub item_missing : ℕ
 item_missing = 33
 
--- layers: vps_video_parameter_set_id is 0; said where the rule of it is in force
+-- layers: vps_video_parameter_set_id 0, directly before 5
 abbrev pub id_zero : ℕ
 id_zero = 34

@@ -76,6 +76,8 @@ pub enum Refusal {
     OutputTooShort = 32,
     // rates, intervals: no timing section in the record, or no such entry, sublayer or schedule
     ItemMissing = 33,
+    // layers: vps_video_parameter_set_id 0, directly before 5
+    IdZero = 34,
 }
 
 // A number that no refusal has.
@@ -131,6 +133,7 @@ impl TryFrom<u32> for Refusal {
             31 => Ok(Refusal::NotWellFormed),
             32 => Ok(Refusal::OutputTooShort),
             33 => Ok(Refusal::ItemMissing),
+            34 => Ok(Refusal::IdZero),
             _ => Err(NoRefusal(number)),
         }
     }

@@ -45,6 +45,7 @@ table =
     ∷ row "writer" "record" "malformed"
     ∷ row "writer" "buffer" "too-short"
     ∷ row "rates" "item" "missing"
+    ∷ row "layers" "set-id" "zero"
     ∷ []
 
 -- the last number that has a sentence

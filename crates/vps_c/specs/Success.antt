@@ -48,7 +48,7 @@ first_other = others unit_too_short work_too_short (omega arith) (omega arith)
 
 -- and of the table and of its rules
 table_other : TableSaid Other today
-table_other = record { table = others sublayers_reserved timing_index (omega arith) (omega arith); id = λ e. absurd (false≢true e) }
+table_other = record { table = others sublayers_reserved timing_index (omega arith) (omega arith); id = λ e. record { is = record { worded = record { first = omega arith; last = omega arith }; long = λ q. omega (arith, q) } } }
 
 abbrev ParseOther : Parse → Type 0
 ParseOther (accepted n bits) = Unit {0}

@@ -91,7 +91,7 @@ table =
     ∷ case (read (unit 0xe0)) (vps_record (record_u 1 (1 ∷ 1 ∷ []) 39) 64)
     ∷ case (read (unit 0xd0)) (vps_record (record_u 1 (2 ∷ 1 ∷ 0 ∷ []) 40) 64)
     -- P13 to P15, and a lone 00
-    ∷ case (read (0 ∷ 0x71 ∷ [])) (no 27)
+    ∷ case (read (0 ∷ 0x71 ∷ [])) (no 34)
     ∷ case (read (0 ∷ 0x79 ∷ [])) (no 2)
     ∷ case (read (0 ∷ 0x71 ∷ 0x10 ∷ 0x38 ∷ [])) (no 5)
     ∷ case (read (0 ∷ [])) (no 1)
@@ -108,6 +108,10 @@ table =
     ∷ case (included (0 ∷ 0 ∷ 1 ∷ [])) (count 3)
     ∷ case (multi (1 ∷ 0 ∷ 0 ∷ [])) (count 0)
     ∷ case (included (1 ∷ 0 ∷ 0 ∷ [])) (count 1)
+    -- nothing behind an id of 1
+    ∷ case (read (0 ∷ 0x71 ∷ 0x10 ∷ [])) (no 27)
+    -- id 0, and reserved sublayers
+    ∷ case (read (0 ∷ 0x71 ∷ 0 ∷ 0x38 ∷ [])) (no 34)
     -- a layer's id equal to the one before
     ∷ case (read (0 ∷ 0x71 ∷ 0x10 ∷ 0x40 ∷ 0 ∷ 8 ∷ 0 ∷ 2 ∷ 0x33 ∷ 0 ∷ 0 ∷ 0xfc ∷ 0x90 ∷ [])) (no 6)
     -- layer 1 without reference, and then an id that doesn't rise
@@ -214,6 +218,8 @@ table =
     ∷ case (written (1 ∷ 1 ∷ 0 ∷ 1 ∷ 1 ∷ 1 ∷ 2 ∷ 0 ∷ 0 ∷ 0 ∷ 1 ∷ 0 ∷ 0 ∷ 1 ∷ 1 ∷ 0 ∷ 1 ∷ 0 ∷ 51 ∷ 0 ∷ 0 ∷ 0 ∷ 5 ∷ 0 ∷ 1 ∷ 0 ∷ 0 ∷ 0 ∷ 0 ∷ 0 ∷ 9 ∷ 12 ∷ 13 ∷ 24 ∷ 26 ∷ 28 ∷ 29 ∷ 38 ∷ [])) (no 31)
     -- constraints of 78 bits that say 77
     ∷ case (written (1 ∷ 1 ∷ 0 ∷ 1 ∷ 1 ∷ 1 ∷ 2 ∷ 0 ∷ 0 ∷ 0 ∷ 1 ∷ 0 ∷ 0 ∷ 1 ∷ 1 ∷ 0 ∷ 1 ∷ 0 ∷ 51 ∷ 0 ∷ 0 ∷ 1 ∷ 78 ∷ 1 ∷ 0 ∷ 0 ∷ 0 ∷ 0 ∷ 0 ∷ 0 ∷ 0 ∷ 1 ∷ 0 ∷ 0 ∷ 0 ∷ 0 ∷ 0 ∷ 0 ∷ 0 ∷ 1 ∷ 0 ∷ 0 ∷ 0 ∷ 0 ∷ 0 ∷ 0 ∷ 0 ∷ 1 ∷ 0 ∷ 0 ∷ 0 ∷ 0 ∷ 0 ∷ 0 ∷ 0 ∷ 1 ∷ 0 ∷ 0 ∷ 0 ∷ 0 ∷ 0 ∷ 0 ∷ 0 ∷ 1 ∷ 0 ∷ 0 ∷ 0 ∷ 0 ∷ 0 ∷ 0 ∷ 0 ∷ 1 ∷ 0 ∷ 0 ∷ 0 ∷ 0 ∷ 0 ∷ 0 ∷ 0 ∷ 1 ∷ 0 ∷ 0 ∷ 0 ∷ 0 ∷ 0 ∷ 0 ∷ 0 ∷ 1 ∷ 0 ∷ 0 ∷ 0 ∷ 0 ∷ 0 ∷ 0 ∷ 0 ∷ 0 ∷ 0 ∷ 0 ∷ 0 ∷ 0 ∷ 1 ∷ 0 ∷ 1 ∷ 0 ∷ 0 ∷ 0 ∷ 0 ∷ 0 ∷ 9 ∷ 12 ∷ 13 ∷ 102 ∷ 104 ∷ 106 ∷ 107 ∷ 116 ∷ [])) (no 31)
+    -- id 0
+    ∷ case (written (1 ∷ 0 ∷ 0 ∷ 1 ∷ 1 ∷ 1 ∷ 2 ∷ 0 ∷ 0 ∷ 0 ∷ 1 ∷ 0 ∷ 0 ∷ 1 ∷ 1 ∷ 0 ∷ 1 ∷ 0 ∷ 51 ∷ 0 ∷ 0 ∷ 0 ∷ 0 ∷ 0 ∷ 1 ∷ 0 ∷ 0 ∷ 0 ∷ 0 ∷ 0 ∷ 9 ∷ 12 ∷ 13 ∷ 24 ∷ 26 ∷ 28 ∷ 29 ∷ 38 ∷ [])) (no 31)
     -- no direct reference
     ∷ case (written (2 ∷ 1 ∷ 0 ∷ 1 ∷ 0 ∷ 0 ∷ 0 ∷ 0 ∷ 0 ∷ 0 ∷ 1 ∷ 0 ∷ 1 ∷ 0 ∷ 0 ∷ 0 ∷ 1 ∷ 0 ∷ 1 ∷ 1 ∷ 0 ∷ 1 ∷ 0 ∷ 51 ∷ 0 ∷ 0 ∷ 0 ∷ 0 ∷ 0 ∷ 2 ∷ 0 ∷ 0 ∷ 1 ∷ 0 ∷ 0 ∷ 0 ∷ 0 ∷ 1 ∷ 0 ∷ 0 ∷ 0 ∷ 0 ∷ 0 ∷ 0 ∷ 0 ∷ 9 ∷ 17 ∷ 18 ∷ 29 ∷ 32 ∷ 43 ∷ 44 ∷ 53 ∷ [])) (no 31)
     -- buffering 16

@@ -34,6 +34,7 @@ impl Header {
         let id = steps.general(Record::VIDEO_PARAMETER_SET_ID, 4)?;
         let layers_minus1 = steps.layers_minus1()?;
         let max_sublayers_minus1 = steps.general(Record::MAX_SUBLAYERS_MINUS1, 3)?;
+        steps.check(0 < id, Refusal::IdZero)?;
         steps.check(max_sublayers_minus1 <= 6, Refusal::SublayersReserved)?;
         let several = 0 < layers_minus1 && 0 < max_sublayers_minus1;
         let default_max_tid_flag = steps.general_if(
