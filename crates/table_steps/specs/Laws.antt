@@ -4,6 +4,7 @@ use Rattle.std.proofs.Common.{sym, subst}
 use Rattle.refusals.specs.declared.refusal.Refusal.{Refusal}
 use Rattle.vps_definition.specs.Syntax.{Syntax, ◌>>=◌}
 use Rattle.vps_definition.specs.Syntax.Syntax.{mark, test, done}
+use Rattle.vps_definition.specs.Words.{check, ruled}
 use Rattle.vps_laws.specs.Loops.{bind_unit}
 use Rattle.vps_laws.specs.Plain.{Plain}
 
@@ -34,6 +35,16 @@ module _ {S : Type 0} {place : S → ℕ} {goes : (A : Type 0) → Syntax A → 
 
   pub goes_no : {A : Type 0} {b : Bool} {m n : Syntax A} {s s₁ : S} {r : Result A Refusal} → b ≡ false → goes A n s r s₁ → goes A (test b m n) s r s₁
   goes_no {A} {m = m} {n = n} {s = s} {s₁ = s₁} {r = r} e G = subst (λ (c : Bool). goes A (test c m n) s r s₁) (sym e) (L.goes_second G)
+
+  -- a table that goes on behind a rule's check
+  pub goes_ruled : {A B : Type 0} {s s₁ s₂ : S} {a : Unit {0}} {r : Result B Refusal} (b : Bool) (n : ℕ) (m : Syntax A) (f : A → Syntax B) → goes (Unit {0}) (check b n) s (Ok a) s₁ → goes B (m >>= f) s₁ r s₂
+      → goes B (ruled true b n m >>= f) s r s₂
+  unfolding ruled check ◌>>=◌
+  goes_ruled b n m f G H = L.goes_then (check b n) (λ c. m >>= f) G H
+
+  pub stops_ruled : {A B : Type 0} {s s₁ : S} {e : Refusal} (b : Bool) (n : ℕ) (m : Syntax A) (f : A → Syntax B) → goes (Unit {0}) (check b n) s (Err e) s₁ → goes B (ruled true b n m >>= f) s (Err e) s₁
+  unfolding ruled check ◌>>=◌
+  stops_ruled b n m f G = L.goes_stop (check b n) (λ c. m >>= f) G
 
   -- behind a refusal no section starts that could be told wrong
   pub marked_any : {A : Type 0} (m : Syntax A) {s s₁ : S} {e : Refusal} {l k : List ℕ} → marked A m s (Err e) s₁ l → marked A m s (Err e) s₁ k

@@ -9,6 +9,7 @@ pub mod Codes
 pub mod Coherence
 pub mod CoherenceThen
 pub mod Heads
+pub mod IdRule
 pub mod Indices
 pub mod Keeps
 pub mod Laid

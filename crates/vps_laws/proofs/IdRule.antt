@@ -1,0 +1,93 @@
+-- Id 0: the answer where it is refused beside that of the same rules where it is taken.
+use Rattle.std.specs.Prelude.{ℕ, ◌<◌, ◌≡◌, refl, List, [], Bool, true, false, ltb, get_or, drop}
+use Rattle.std.proofs.Common.{sym, ap, ◌∙◌, arith, ltb-true, ltb-false, lt-ltb}
+use Rattle.std.proofs.Math.Path.{subst⁻¹}
+use Rattle.std.proofs.lemmas.Bool.{le-ltb}
+use Rattle.refusals.specs.Number.{id_zero}
+use Rattle.stuffing.specs.Stuffing.{unstuff}
+use Rattle.bits.specs.Bits.{field_at}
+use Rattle.vps_definition.specs.Rules.{Rules, refusing_id, taking_id}
+use Rattle.vps_definition.specs.Syntax.{Syntax, ◌>>=◌, Token, Outcome, run}
+use Rattle.vps_definition.specs.Syntax.Syntax.{test, refuse}
+use Rattle.vps_definition.specs.Syntax.Outcome.{accepted, refused}
+use Rattle.vps_definition.specs.Words.{general, check, ruled}
+use Rattle.vps_definition.specs.Views.{header_of}
+use Rattle.vps_definition.specs.Vps.{Header, header_under, vps_under}
+use Rattle.vps_definition.specs.Reading.{Reading, closed, read_rbsp_under, read_unit_under}
+use Rattle.vps_definition.specs.Reading.Reading.{accepts, refuses}
+use Rattle.vps_laws.specs.Bind.{then_read}
+use Rattle.vps_laws.proofs.Bind.{run_bind, run_bound}
+use Rattle.vps_laws.specs.Keeps.{Returns, keeps_done}
+use Rattle.vps_laws.proofs.Keeps.{returns_bind}
+use Rattle.vps_laws.specs.Order.{table_before_end}
+use Rattle.vps_laws.proofs.Order.{first_refusal}
+use Rattle.vps_laws.specs.Compared.{unit_both}
+use Rattle.vps_laws.proofs.Views.{accepted_viewed}
+
+-- ── The first fields ──────────────────────────────────────────────────
+failed : {A : Type 0} (b : Bool) (m : Syntax A) (n : ℕ) (s : List ℕ) (at : ℕ) → b ≡ false → run (test b m (refuse n)) s at ≡ refused n []
+unfolding run
+failed b m n s at e = rw e refl
+
+passed : {A : Type 0} (b : Bool) (m n : Syntax A) (s : List ℕ) (at : ℕ) → b ≡ true → run (test b m n) s at ≡ run m s at
+unfolding run
+passed b m n s at e = rw e refl
+
+header_refuses : (rules : Rules) (s : List ℕ) → field_at s 0 4 ≡ 0 → run (header_under (refusing_id rules)) s 0 ≡ refused id_zero []
+unfolding run header_under general ruled check ◌>>=◌
+header_refuses rules s e = failed (ltb 0 (field_at s 0 4)) _ id_zero s _ (le-ltb 0 (field_at s 0 4) (omega (arith, e)))
+
+header_same : (rules : Rules) (s : List ℕ) → 0 < field_at s 0 4 → run (header_under (refusing_id rules)) s 0 ≡ run (header_under (taking_id rules)) s 0
+unfolding run header_under general ruled check ◌>>=◌
+header_same rules s l = passed (ltb 0 (field_at s 0 4)) _ _ s _ (lt-ltb 0 (field_at s 0 4) l)
+
+-- ── An RBSP ───────────────────────────────────────────────────────────
+-- first tables that read alike, and the same behind them
+same_first : {A B : Type 0} (m n : Syntax A) (f : A → Syntax B) (s : List ℕ) (at : ℕ) → run m s at ≡ run n s at → run (m >>= f) s at ≡ run (n >>= f) s at
+same_first {A} m n f s at e = run_bind m f s at ∙ ap (λ (R : Outcome A). then_read R (λ a next. run (f a) s next)) e ∙ sym (run_bind n f s at)
+
+pub rbsp_refuses : (rules : Rules) (s : List ℕ) → field_at s 0 4 ≡ 0 → read_rbsp_under (refusing_id rules) s ≡ refuses id_zero
+unfolding vps_under
+rbsp_refuses rules s e = table_before_end (refusing_id rules) s (first_refusal (header_under (refusing_id rules)) _ s 0 (header_refuses rules s e))
+
+rbsp_same : (rules : Rules) (s : List ℕ) → 0 < field_at s 0 4 → read_rbsp_under (refusing_id rules) s ≡ read_rbsp_under (taking_id rules) s
+unfolding read_rbsp_under vps_under
+rbsp_same rules s l = ap (closed s) (same_first (header_under (refusing_id rules)) (header_under (taking_id rules)) _ s 0 (header_same rules s l))
+
+-- the answer beside that of before: the same, or 34, and then the id is 0
+pub data IdMoved (s : List ℕ) : (now before : Reading) → Type 0 where
+  id_same : {R : Reading} → IdMoved s R R
+  id_refused : {R : Reading} → field_at s 0 4 ≡ 0 → IdMoved s (refuses id_zero) R
+
+rbsp_moved : (rules : Rules) (s : List ℕ) → IdMoved s (read_rbsp_under (refusing_id rules) s) (read_rbsp_under (taking_id rules) s)
+rbsp_moved rules s = go (ltb 0 (field_at s 0 4)) refl
+  where
+    go : (b : Bool) → ltb 0 (field_at s 0 4) ≡ b → IdMoved s (read_rbsp_under (refusing_id rules) s) (read_rbsp_under (taking_id rules) s)
+    go true e = subst⁻¹ (λ (R : Reading). IdMoved s R (read_rbsp_under (taking_id rules) s)) (rbsp_same rules s (ltb-true 0 (field_at s 0 4) e)) id_same
+    go false e =
+        let z : field_at s 0 4 ≡ 0 = omega (arith, ltb-false 0 (field_at s 0 4) e) in
+        subst⁻¹ (λ (R : Reading). IdMoved s R (read_rbsp_under (taking_id rules) s)) (rbsp_refuses rules s z) (id_refused z)
+
+-- ── A unit ────────────────────────────────────────────────────────────
+pub id_moved : (rules : Rules) (u : List ℕ) → IdMoved (unstuff (drop 2 u)) (read_unit_under (refusing_id rules) u) (read_unit_under (taking_id rules) u)
+id_moved rules u = unit_both IdMoved (λ s R. id_same) (read_rbsp_under (refusing_id rules)) (read_rbsp_under (taking_id rules)) (rbsp_moved rules) u
+
+general_value : (i w : ℕ) {v : ℕ} {t : List Token} {next : ℕ} (s : List ℕ) (at : ℕ) → run (general i w) s at ≡ accepted v t next → v ≡ field_at s at w
+unfolding run general
+general_value i w s at e = cc
+
+-- of two tables in a row, what holds of the result behind each result of the first
+by_first : {A B : Type 0} {b : B} {t : List Token} {next : ℕ} (Q : A → B → Type 0) (m : Syntax A) (f : A → Syntax B) (s : List ℕ) (at : ℕ) → ((a : A) → Returns (Q a) (f a))
+    → run (m >>= f) s at ≡ accepted b t next → (a : A) × (u : List Token) × (q : ℕ) × (run m s at ≡ accepted a u q) × Q a b
+by_first Q m f s at F e = let B = run_bound m f s at e in (B.result, B.before, B.middle, B.first, (F B.result).holds s B.middle B.second)
+
+header_id : (rules : Rules) (s : List ℕ) {h : Header} {t : List Token} {next : ℕ} → run (header_under rules) s 0 ≡ accepted h t next → h.id ≡ field_at s 0 4
+unfolding header_under
+header_id rules s e =
+    let B = by_first (λ v (h : Header). h.id ≡ v) (general 1 4) _ s 0 (λ v. returns_bind _ λ n. returns_bind _ λ top. returns_bind _ λ c. returns_bind _ λ d. returns_bind _ λ a. keeps_done refl) e in
+    B.4 ∙ general_value 1 4 s 0 B.3
+
+-- the id of an accepted record is the first four bits
+pub accepted_id : (rules : Rules) (u r : List ℕ) (n : ℕ) → read_unit_under rules u ≡ accepts r n → get_or r 1 0 ≡ field_at (unstuff (drop 2 u)) 0 4
+unfolding header_of
+accepted_id rules u r n e = let V = accepted_viewed rules u r n e in ap (λ (h : Header). h.id) V.seen.header_is ∙ header_id rules (unstuff (drop 2 u)) V.read.header_read
