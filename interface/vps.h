@@ -12,6 +12,7 @@
  * No function keeps a pointer, allocates, or uses anything but its arguments, so calls may run at the same time on different buffers.
  *
  * The record is a list of 32-bit numbers in nine sections. docs/DEFINITION.md and the definition that it maps say what each number is.
+ * A list is a well-formed record exactly if some unit is read as it; so none is whose id, record[1], is 0.
  *
  * The sentence of a refusal is three words with a blank between them: place, field and fault. No two refusals have the same, so
  * that the sentence alone gives the number back. docs/REFUSALS.md has them all, with what each means and what to do.
@@ -58,6 +59,8 @@ enum vps_answer {
     /* lengths: work buffer shorter than RBSP */
     VPS_WORK_TOO_SHORT = 4,
 
+    /* layers: vps_video_parameter_set_id 0, directly before 5 */
+    VPS_ID_ZERO = 34,
     /* layers: max_sublayers_minus1 is 7 */
     VPS_SUBLAYERS_RESERVED = 5,
     /* layers: ids not strictly rising */
@@ -151,8 +154,10 @@ enum vps_section_number {
  * 0           *length is the record's length and *bits_used the RBSP's bits through the trailing bits. The record stands at the
  *             beginning of record, and the RBSP at the beginning of work; what is behind each is as before.
  * 1 to 4      work, record, *length and *bits_used are as before.
- * 5 to 29     the RBSP stands at the beginning of work, and what is behind it is as before; record, *length and *bits_used are as before.
+ * 5 to 29, 34 the RBSP stands at the beginning of work, and what is behind it is as before; record, *length and *bits_used are as before.
  * 30          *length is the length that the record needs; *bits_used and record are as before; work is as for 5 to 29.
+ *
+ * 34 is a set id of 0, whatever else is in the RBSP, even if that is empty: past its end bits read 0.
  *
  * No other number is given.
  */
