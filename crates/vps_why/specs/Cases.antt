@@ -20,17 +20,21 @@ pub sample_lines : map why samples ≡ map bytes ("accepted\n" ∷ "accepted\n" 
 unfolding opened Sentences.opened decimal_in refused_line line why samples
 sample_lines = refl
 
--- a lone byte, another type, a header alone, too many sublayers, and U with another last byte
+-- a lone byte, another type, a header alone, a header and id 1, id 0 before too many sublayers, these under id 1, U with id 0, and U
+-- with another last byte
 pub units : List (List ℕ)
 units =
     (0 ∷ [])
     ∷ (0 ∷ 0x79 ∷ [])
     ∷ (0 ∷ 0x71 ∷ [])
+    ∷ (0 ∷ 0x71 ∷ 0x10 ∷ [])
+    ∷ (0 ∷ 0x71 ∷ 0 ∷ 0x38 ∷ [])
     ∷ (0 ∷ 0x71 ∷ 0x10 ∷ 0x38 ∷ [])
+    ∷ (0 ∷ 0x71 ∷ 0 ∷ 0 ∷ 3 ∷ 0 ∷ 2 ∷ 0x33 ∷ 0 ∷ 0 ∷ 0x40 ∷ [])
     ∷ (0 ∷ 0x71 ∷ 0x10 ∷ 0 ∷ 0 ∷ 3 ∷ 2 ∷ 0x33 ∷ 0 ∷ 0 ∷ 0 ∷ [])
     ∷ (0 ∷ 0x71 ∷ 0x10 ∷ 0 ∷ 0 ∷ 3 ∷ 2 ∷ 0x33 ∷ 0 ∷ 0 ∷ 0x41 ∷ [])
     ∷ []
 
-pub unit_lines : map why units ≡ map bytes ("1 header unit too-short\n" ∷ "2 header type wrong\n" ∷ "27 end stop-bit missing\n" ∷ "5 layers sublayers too-many\n" ∷ "28 end stop-bit zero\n" ∷ "29 end padding not-zero\n" ∷ [])
+pub unit_lines : map why units ≡ map bytes ("1 header unit too-short\n" ∷ "2 header type wrong\n" ∷ "34 layers set-id zero\n" ∷ "27 end stop-bit missing\n" ∷ "34 layers set-id zero\n" ∷ "5 layers sublayers too-many\n" ∷ "34 layers set-id zero\n" ∷ "28 end stop-bit zero\n" ∷ "29 end padding not-zero\n" ∷ [])
 unfolding opened Sentences.opened decimal_in refused_line line why units
 unit_lines = refl
