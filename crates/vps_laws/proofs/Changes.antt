@@ -1,19 +1,29 @@
 -- What each change of a rule changed: for every unit, the answer beside the answer of before, whichever other rules are in force.
-use Rattle.std.specs.Prelude.{ℕ, ◌+◌, ◌≡◌, refl, List, [], ◌∷◌, ◌++◌, true, length, get_or}
-use Rattle.std.proofs.Common.{sym}
+use Rattle.std.specs.Prelude.{ℕ, zero, suc, ◌+◌, ◌/◌, ◌≤◌, ◌<◌, ◌≡◌, refl, List, [], ◌∷◌, ◌++◌, Bool, true, false, ◌↔◌, length, get_or, drop}
+use Rattle.std.proofs.Common.{sym, ap, ◌∙◌, subst, arith}
 use Rattle.std.proofs.lemmas.List.Edits.{sets}
-use Rattle.refusals.specs.Number.{stop_bit_zero}
-use Rattle.vps_definition.specs.Rules.{Rules}
+use Rattle.refusals.specs.Answer.Answer.{refusal}
+use Rattle.refusals.specs.Number.{stop_bit_zero, not_well_formed, id_zero}
+use Rattle.stuffing.specs.Stuffing.{unstuff}
+use Rattle.bits.specs.Bits.{field_at}
+use Rattle.vps_definition.specs.Rules.{Rules, refusing_id, taking_id}
 use Rattle.vps_definition.specs.Record.{start_of}
 use Rattle.vps_definition.specs.Layout.{extension_in}
-use Rattle.vps_definition.specs.Reading.{Reading, read_unit_under}
+use Rattle.vps_definition.specs.Reading.{Reading, most_rbsp_bytes, vps_nut, read_unit_under}
 use Rattle.vps_definition.specs.Reading.Reading.{accepts, refuses}
-use Rattle.vps_definition.specs.Writing.{all_flags, well_formed_under}
+use Rattle.vps_definition.specs.Writing.{all_flags, write_record_under, well_formed_under}
 use Rattle.vps_laws.specs.Units.{not_accepts}
 use Rattle.vps_laws.specs.LongerExtension.{unit_with_shorter_extension, Longer}
 use Rattle.vps_laws.proofs.LongerExtension.{answer_longer}
 use Rattle.vps_laws.specs.LongerExtension.Longer.{as_before, ends_in_zero}
 use Rattle.vps_laws.proofs.AnyExtension.{others_well_formed}
+use Rattle.vps_laws.proofs.Units.{written_read}
+use Rattle.vps_laws.specs.Claims.{accepted_reads, well_formed_written}
+use Rattle.vps_laws.specs.Records.{ill_formed_refused}
+use Rattle.vps_laws.specs.Order.{header_first}
+use Rattle.vps_laws.specs.Says.{ReadingSays}
+use Rattle.vps_laws.proofs.IdRule.{IdMoved, id_moved, rbsp_refuses, record_same, accepted_id, Another, unit_other}
+use Rattle.vps_laws.proofs.IdRule.IdMoved.{id_same, id_refused}
 
 -- ── Extension bits run up to the last one-bit ─────────────────────────
 -- A unit that was accepted is accepted, with the same record and bits used.
@@ -47,3 +57,63 @@ answers_moved_from_28 rules u = go (answer_longer rules u)
 pub any_extension_bits : (rules : Rules) (r e : List ℕ) → well_formed_under rules r ≡ true → all_flags e ≡ true → length e ≡ length (extension_in r)
     → well_formed_under rules (sets r (start_of r 7 + 1) e) ≡ true
 any_extension_bits = others_well_formed
+
+-- ── Id 0 is refused ───────────────────────────────────────────────────
+positive : (n : ℕ) → (n ≡ 0 → ⊥) → 0 < n
+positive zero h = absurd (h refl)
+positive (suc n) h = omega arith
+
+-- Where the answer is another, it is 34, and the id's four bits are 0.
+pub id_rule_changes_only : (rules : Rules) (u : List ℕ) → (read_unit_under (refusing_id rules) u ≡ read_unit_under (taking_id rules) u → ⊥)
+    → (read_unit_under (refusing_id rules) u ≡ refuses id_zero) × (field_at (unstuff (drop 2 u)) 0 4 ≡ 0)
+id_rule_changes_only rules u = go (id_moved rules u)
+  where
+    go : {R S : Reading} → IdMoved (unstuff (drop 2 u)) R S → (R ≡ S → ⊥) → (R ≡ refuses id_zero) × (field_at (unstuff (drop 2 u)) 0 4 ≡ 0)
+    go id_same h = absurd (h refl)
+    go (id_refused z) h = (refl, z)
+
+-- And it is 34 for every such unit that its header and its length let through.
+pub id_zero_is_refused : (rules : Rules) (u : List ℕ) → 2 ≤ length u → get_or u 1 0 / 8 ≡ vps_nut → length (unstuff (drop 2 u)) ≤ most_rbsp_bytes
+    → field_at (unstuff (drop 2 u)) 0 4 ≡ 0 → read_unit_under (refusing_id rules) u ≡ refuses id_zero
+id_zero_is_refused rules u l h k z = (header_first (refusing_id rules) u).within l h k ∙ rbsp_refuses rules (unstuff (drop 2 u)) z
+
+-- 34 was no answer before, so each 34 is another answer.
+pub id_zero_was_no_answer : (rules : Rules) (u : List ℕ) → read_unit_under (taking_id rules) u ≡ refuses id_zero → ⊥
+id_zero_was_no_answer rules u e = (subst (ReadingSays Another) e (unit_other rules u)).is refl
+
+-- So a unit is accepted exactly if it was before with an id above 0, with the same record and bits used.
+pub accepted_with_an_id : (rules : Rules) (u r : List ℕ) (n : ℕ)
+    → (read_unit_under (refusing_id rules) u ≡ accepts r n) ↔ ((read_unit_under (taking_id rules) u ≡ accepts r n) × (0 < get_or r 1 0))
+accepted_with_an_id rules u r n = (
+  (λ e. there (id_moved rules u) e (λ z. with_id_zero e z)),
+  (λ e. back (id_moved rules u) e.0 e.1 (accepted_id (taking_id rules) u r n e.0)),
+)
+  where
+    with_id_zero : read_unit_under (refusing_id rules) u ≡ accepts r n → get_or r 1 0 ≡ 0 → ⊥
+    with_id_zero e z =
+        not_accepts (sym (rbsp_refuses rules (unstuff (drop 2 u)) (sym (accepted_id (refusing_id rules) u r n e) ∙ z)) ∙ accepted_reads (refusing_id rules) u r n e)
+
+    there : {R S : Reading} → IdMoved (unstuff (drop 2 u)) R S → R ≡ accepts r n → (get_or r 1 0 ≡ 0 → ⊥) → (S ≡ accepts r n) × (0 < get_or r 1 0)
+    there id_same e h = (e, positive (get_or r 1 0) h)
+    there (id_refused z) e h = not_accepts e
+
+    back : {R S : Reading} → IdMoved (unstuff (drop 2 u)) R S → S ≡ accepts r n → 0 < get_or r 1 0 → get_or r 1 0 ≡ field_at (unstuff (drop 2 u)) 0 4 → R ≡ accepts r n
+    back id_same e l i = e
+    back (id_refused z) e l i = absurd (omega (arith, z, l, i))
+
+-- A well-formed record has an id above 0; one with id 0 is not well formed, and the writer refuses it with 31.
+pub well_formed_has_an_id : (rules : Rules) (r : List ℕ) → well_formed_under (refusing_id rules) r ≡ true → 0 < get_or r 1 0
+well_formed_has_an_id rules r h =
+    let W = well_formed_written (refusing_id rules) r h in
+    ((accepted_with_an_id rules W.0 r _).0 (written_read (refusing_id rules) r W.0 W.1)).1
+
+pub id_zero_is_not_written : (rules : Rules) (r : List ℕ) → get_or r 1 0 ≡ 0 → write_record_under (refusing_id rules) r ≡ refusal not_well_formed
+id_zero_is_not_written rules r z = ill_formed_refused (refusing_id rules) r (go (well_formed_under (refusing_id rules) r) refl)
+  where
+    go : (b : Bool) → well_formed_under (refusing_id rules) r ≡ b → b ≡ false
+    go true e = absurd (omega (arith, z, well_formed_has_an_id rules r e))
+    go false e = refl
+
+-- Every other record is written as before: to the same bytes, or refused.
+pub records_with_an_id_stay : (rules : Rules) (r : List ℕ) → 0 < get_or r 1 0 → write_record_under (refusing_id rules) r ≡ write_record_under (taking_id rules) r
+records_with_an_id_stay = record_same

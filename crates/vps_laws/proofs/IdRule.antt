@@ -1,26 +1,30 @@
 -- Id 0: the answer where it is refused beside that of the same rules where it is taken.
-use Rattle.std.specs.Prelude.{ℕ, ◌<◌, ◌≡◌, refl, List, [], Bool, true, false, ltb, get_or, drop}
-use Rattle.std.proofs.Common.{sym, ap, ◌∙◌, arith, ltb-true, ltb-false, lt-ltb}
+use Rattle.std.specs.Prelude.{ℕ, ◌+◌, ◌^◌, ◌<◌, ◌≤◌, ◌≡◌, refl, List, [], Bool, true, false, ltb, leb, get_or, drop}
+use Rattle.std.proofs.Common.{sym, ap, ◌∙◌, arith, leb-true, ltb-true, ltb-false, lt-ltb}
 use Rattle.std.proofs.Math.Path.{subst⁻¹}
 use Rattle.std.proofs.lemmas.Bool.{le-ltb}
-use Rattle.refusals.specs.Number.{id_zero}
+use Rattle.refusals.specs.Number.{unit_too_short, rbsp_too_long, sublayers_reserved, timing_index, stop_bit_missing, alignment_bit_one, id_zero}
 use Rattle.stuffing.specs.Stuffing.{unstuff}
-use Rattle.bits.specs.Bits.{field_at}
+use Rattle.bits.specs.Bits.{bits_of, field_at}
 use Rattle.vps_definition.specs.Rules.{Rules, refusing_id, taking_id}
-use Rattle.vps_definition.specs.Syntax.{Syntax, ◌>>=◌, Token, Outcome, run}
-use Rattle.vps_definition.specs.Syntax.Syntax.{test, refuse}
+use Rattle.vps_definition.specs.Syntax.{Syntax, ◌>>=◌, Token, Outcome, run, Written, putting, emit}
+use Rattle.vps_definition.specs.Syntax.Syntax.{late, test, refuse}
 use Rattle.vps_definition.specs.Syntax.Outcome.{accepted, refused}
+use Rattle.vps_definition.specs.Syntax.Written.{bad}
 use Rattle.vps_definition.specs.Words.{general, check, ruled}
 use Rattle.vps_definition.specs.Views.{header_of}
 use Rattle.vps_definition.specs.Vps.{Header, header_under, vps_under}
 use Rattle.vps_definition.specs.Reading.{Reading, closed, read_rbsp_under, read_unit_under}
 use Rattle.vps_definition.specs.Reading.Reading.{accepts, refuses}
-use Rattle.vps_laws.specs.Bind.{then_read}
+use Rattle.vps_definition.specs.Writing.{finished, write_record_under}
+use Rattle.vps_laws.specs.Bind.{then_read, then_write, emit_bind}
 use Rattle.vps_laws.proofs.Bind.{run_bind, run_bound}
 use Rattle.vps_laws.specs.Keeps.{Returns, keeps_done}
 use Rattle.vps_laws.proofs.Keeps.{returns_bind}
 use Rattle.vps_laws.specs.Order.{table_before_end}
 use Rattle.vps_laws.proofs.Order.{first_refusal}
+use Rattle.vps_laws.specs.Says.{Among, TableSaid, ReadingSays, unit_says}
+use Rattle.vps_laws.proofs.Says.{rbsp_says}
 use Rattle.vps_laws.specs.Compared.{unit_both}
 use Rattle.vps_laws.proofs.Views.{accepted_viewed}
 
@@ -42,9 +46,12 @@ unfolding run header_under general ruled check ◌>>=◌
 header_same rules s l = passed (ltb 0 (field_at s 0 4)) _ _ s _ (lt-ltb 0 (field_at s 0 4) l)
 
 -- ── An RBSP ───────────────────────────────────────────────────────────
--- first tables that read alike, and the same behind them
+-- first tables that are read alike, or written alike, and the same behind them
 same_first : {A B : Type 0} (m n : Syntax A) (f : A → Syntax B) (s : List ℕ) (at : ℕ) → run m s at ≡ run n s at → run (m >>= f) s at ≡ run (n >>= f) s at
 same_first {A} m n f s at e = run_bind m f s at ∙ ap (λ (R : Outcome A). then_read R (λ a next. run (f a) s next)) e ∙ sym (run_bind n f s at)
+
+same_written : {A B : Type 0} (m n : Syntax A) (f : A → Syntax B) (r x : List ℕ) (at : ℕ) → emit m r x at ≡ emit n r x at → emit (m >>= f) r x at ≡ emit (n >>= f) r x at
+same_written {A} m n f r x at e = emit_bind m f r x at ∙ ap (λ (W : Written A). then_write at W (λ a y next. emit (f a) r y next)) e ∙ sym (emit_bind n f r x at)
 
 pub rbsp_refuses : (rules : Rules) (s : List ℕ) → field_at s 0 4 ≡ 0 → read_rbsp_under (refusing_id rules) s ≡ refuses id_zero
 unfolding vps_under
@@ -67,6 +74,25 @@ rbsp_moved rules s = go (ltb 0 (field_at s 0 4)) refl
     go false e =
         let z : field_at s 0 4 ≡ 0 = omega (arith, ltb-false 0 (field_at s 0 4) e) in
         subst⁻¹ (λ (R : Reading). IdMoved s R (read_rbsp_under (taking_id rules) s)) (rbsp_refuses rules s z) (id_refused z)
+
+-- ── A record ──────────────────────────────────────────────────────────
+late_written : {A : Type 0} (w : ℕ) (find : List ℕ → List ℕ → ℕ) (k k' : ℕ → Syntax A) (r x : List ℕ) (at : ℕ) → emit (k (find r x)) r x (at + w) ≡ emit (k' (find r x)) r x (at + w)
+    → emit (late w find k) r x at ≡ emit (late w find k') r x at
+unfolding emit
+late_written {A} w find k k' r x at e = ap (λ (W : Written A). elim (ltb (find r x) (2 ^ w)) as (λ d. Written A) [ true ↦ putting [] (bits_of w (find r x)) W | false ↦ bad ]) e
+
+passed_written : {A : Type 0} (b : Bool) (m n : Syntax A) (r x : List ℕ) (at : ℕ) → b ≡ true → emit (test b m n) r x at ≡ emit m r x at
+unfolding emit
+passed_written b m n r x at e = rw e refl
+
+written_same : (rules : Rules) (r x : List ℕ) (at : ℕ) → 0 < get_or r 1 0 → emit (header_under (refusing_id rules)) r x at ≡ emit (header_under (taking_id rules)) r x at
+unfolding header_under general ruled check ◌>>=◌
+written_same rules r x at l =
+    late_written 4 _ _ _ r x at (late_written 6 _ _ _ r x (at + 4) (late_written 3 _ _ _ r x (at + 4 + 6) (passed_written (ltb 0 (get_or r 1 0)) _ _ r x (at + 4 + 6 + 3) (lt-ltb 0 (get_or r 1 0) l))))
+
+pub record_same : (rules : Rules) (r : List ℕ) → 0 < get_or r 1 0 → write_record_under (refusing_id rules) r ≡ write_record_under (taking_id rules) r
+unfolding write_record_under vps_under
+record_same rules r l = ap (finished r) (same_written (header_under (refusing_id rules)) (header_under (taking_id rules)) _ r (drop 9 r) 0 (written_same rules r (drop 9 r) 0 l))
 
 -- ── A unit ────────────────────────────────────────────────────────────
 pub id_moved : (rules : Rules) (u : List ℕ) → IdMoved (unstuff (drop 2 u)) (read_unit_under (refusing_id rules) u) (read_unit_under (taking_id rules) u)
@@ -91,3 +117,18 @@ header_id rules s e =
 pub accepted_id : (rules : Rules) (u r : List ℕ) (n : ℕ) → read_unit_under rules u ≡ accepts r n → get_or r 1 0 ≡ field_at (unstuff (drop 2 u)) 0 4
 unfolding header_of
 accepted_id rules u r n e = let V = accepted_viewed rules u r n e in ap (λ (h : Header). h.id) V.seen.header_is ∙ header_id rules (unstuff (drop 2 u)) V.read.header_read
+
+-- ── 34 was no answer ──────────────────────────────────────────────────
+abbrev pub Another : ℕ → Type 0
+Another k = k ≡ id_zero → ⊥
+
+others : (first last : ℕ) → last < id_zero → Among Another first last
+others first last l = record { each = λ k e f. record { is = λ q. omega (arith, q, l, leb-true k last f) } }
+
+taking_others : (rules : Rules) → TableSaid Another (taking_id rules)
+taking_others rules = record { table = others sublayers_reserved timing_index (omega arith); id = λ e. absurd (let n : ◌≡◌ {A = ℕ} 0 1 = cc in omega arith) }
+
+pub unit_other : (rules : Rules) (u : List ℕ) → ReadingSays Another (read_unit_under (taking_id rules) u)
+unit_other rules =
+    unit_says Another (read_rbsp_under (taking_id rules)) (others unit_too_short rbsp_too_long (omega arith))
+    (rbsp_says (taking_id rules) (taking_others rules) (others stop_bit_missing alignment_bit_one (omega arith)))

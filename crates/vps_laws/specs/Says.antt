@@ -1,13 +1,14 @@
 -- Which numbers a reading can be refused with, whatever the bytes are: those that stand in the table, those of the codes, and those of
 -- the end.
-use Prim.Native.Nat.{ℕ, zero, suc, ◌+◌, ◌*◌}
+use Prim.Native.Nat.{ℕ, zero, suc, ◌+◌, ◌*◌, ◌/◌}
 use Rattle.std.specs.Prelude.{◌≡◌, refl, Bool, cond, ltb, leb, eqb, length}
 use mathlib.Core.List.{List, [], ◌∷◌}
 use Rattle.std.proofs.Math.Bool.{true, false}
 use Rattle.std.proofs.Common.{arith, leb-true, le-leb}
 use Rattle.refusals.specs.Answer.{Answer}
 use Rattle.refusals.specs.Answer.Answer.{success, refusal}
-use Rattle.refusals.specs.Number.{sublayers_reserved, ptl_alignment, code_too_long, timing_index, stop_bit_missing, alignment_bit_one, id_zero}
+use Rattle.refusals.specs.Number.{unit_too_short, rbsp_too_long, sublayers_reserved, ptl_alignment, code_too_long, timing_index, stop_bit_missing, alignment_bit_one, id_zero}
+use Rattle.stuffing.specs.Stuffing.{unstuff}
 use Rattle.bits.specs.Bits.{bit_at, field_at, to_boundary}
 use Rattle.bits.specs.Code.{Taken, zeros_at, code_behind, code_at}
 use Rattle.bits.specs.Code as Code
@@ -18,7 +19,7 @@ use Rattle.vps_definition.specs.Syntax.Syntax.{field, code, late, keep, mark, al
 use Rattle.vps_definition.specs.Syntax.Outcome.{accepted, refused}
 use Rattle.vps_definition.specs.Words.{u, u_minus1, ue, ue_minus1, inferred, u_if, ue_if, general, general_if, check, ruled, nothing, when, aligned, keeps, loop, repeat}
 use Rattle.vps_definition.specs.ProfileTierLevel.{falling, ahead}
-use Rattle.vps_definition.specs.Reading.{Reading}
+use Rattle.vps_definition.specs.Reading.{Reading, most_rbsp_bytes, limited_by, vps_nut, unit_by}
 use Rattle.vps_definition.specs.Reading.Reading.{accepts, refuses}
 
 -- ── A set of numbers ──────────────────────────────────────────────────
@@ -275,3 +276,15 @@ code_says ok e s at = go (ltb (zeros_at s at 32) 32) _ _ (go (ltb (at + zeros_at
     go : (b : Bool) (x y : Taken) → TakenSays ok x → TakenSays ok y → TakenSays ok (cond b x y)
     go true x y h g = h
     go false x y h g = g
+
+-- ── A unit ────────────────────────────────────────────────────────────
+-- a unit is refused with a number of the first checks, or as its RBSP is
+pub unit_says : (ok : ℕ → Type 0) (f : List ℕ → Reading) → Among ok unit_too_short rbsp_too_long → ((s : List ℕ) → ReadingSays ok (f s)) → (u : List ℕ) → ReadingSays ok (unit_by f u)
+unfolding unit_by limited_by
+unit_says ok f H R [] = H.each _ refl refl
+unit_says ok f H R (a ∷ []) = H.each _ refl refl
+unit_says ok f H R (a ∷ b ∷ s) = go (eqb (b / 8) vps_nut) _ _ (go (leb (length (unstuff s)) most_rbsp_bytes) _ _ (R (unstuff s)) (H.each _ refl refl)) (H.each _ refl refl)
+  where
+    go : (c : Bool) (k : ℕ) (x : Reading) → ReadingSays ok x → Said ok k → ReadingSays ok (elim c as (λ d. Reading) [ true ↦ x | false ↦ refuses k ])
+    go true k x h g = h
+    go false k x h g = g
