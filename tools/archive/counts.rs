@@ -19,7 +19,8 @@ pub trait Counted: Copy + Ord + 'static {
 }
 
 // What the second judge has an answer for. Set aside are units that the Rust refuses with 28 under extension flag 1, and
-// lists whose extension ends in 0; of other units with that flag both judges say the same.
+// lists whose extension ends in 0; of other units with that flag both judges say the same. And units with id 0 that the Rust
+// reads past the id, and lists with id 0 that are well formed but for that.
 #[derive(Clone, Copy, PartialEq, Eq, PartialOrd, Ord)]
 pub enum Ruled {
     UnitAccepted,
@@ -27,12 +28,29 @@ pub enum Ruled {
     UnitOfBoth,
     ListWritten,
     ListRefused,
+    IdZeroAccepted,
+    IdZeroSublayers,
+    IdZeroRefused,
+    IdZeroOfOtherType,
+    IdZeroTooLong,
+    IdZeroList,
 }
 
 impl Counted for Ruled {
     const HEAD: &'static str = "| The second judge on | Answer | Count |\n|---|---|---|";
-    const ALL: &'static [Ruled] =
-        &[Ruled::UnitAccepted, Ruled::UnitRefused, Ruled::UnitOfBoth, Ruled::ListWritten, Ruled::ListRefused];
+    const ALL: &'static [Ruled] = &[
+        Ruled::UnitAccepted,
+        Ruled::UnitRefused,
+        Ruled::UnitOfBoth,
+        Ruled::ListWritten,
+        Ruled::ListRefused,
+        Ruled::IdZeroAccepted,
+        Ruled::IdZeroSublayers,
+        Ruled::IdZeroRefused,
+        Ruled::IdZeroOfOtherType,
+        Ruled::IdZeroTooLong,
+        Ruled::IdZeroList,
+    ];
 
     // The input and the answer.
     fn name(self) -> &'static str {
@@ -42,7 +60,20 @@ impl Counted for Ruled {
             Ruled::UnitOfBoth => "not set aside: other unit with extension flag 1 | as the Rust's",
             Ruled::ListWritten => "set aside: list whose extension ends in 0 | written",
             Ruled::ListRefused => "set aside: list whose extension ends in 0 | refused 31",
+            Ruled::IdZeroAccepted => "set aside: unit with id 0, accepted but for that | refused 34",
+            Ruled::IdZeroSublayers => "set aside: unit with id 0, 5 by the Rust | refused 34",
+            Ruled::IdZeroRefused => "set aside: unit with id 0, another number by the Rust | refused 34",
+            Ruled::IdZeroOfOtherType => {
+                "not set aside: unit of another type, and 0 where the id stands | as the Rust's, 2"
+            }
+            Ruled::IdZeroTooLong => "not set aside: unit with id 0 and an RBSP over 65,535 bytes | refused 3",
+            Ruled::IdZeroList => "set aside: list with id 0, well formed but for that | refused 31",
         }
+    }
+
+    // The longest units are made for the purpose.
+    fn is_of_short_units(self) -> bool {
+        !matches!(self, Ruled::IdZeroTooLong)
     }
 }
 

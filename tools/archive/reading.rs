@@ -1,17 +1,20 @@
-// Reading: vps_parse against the Rust, and against the second judge of extension bits where the Rust's answer doesn't
-// count, with the rules of this project for lengths and buffers (docs/DIFFERENCES.md).
+// Reading: vps_parse against the Rust, and against the second judge of extension bits and of id 0 where the Rust's answer
+// doesn't count, with the rules of this project for lengths and buffers (docs/DIFFERENCES.md).
 use crate::buffers::Guarded;
 use crate::calls;
 use crate::counts::Ruled;
 use crate::report::{shown, Answer, Report};
 use bitstream::nal::ebsp_to_rbsp;
-use judge::extension_rule::Judges;
+use judge::judges::{Judges, Rule};
 use judge::random::Random;
 use judge::record::Reading;
 use judge::show::hex_of;
 use judge::structures::mode_of;
 
 const MOST_RBSP: usize = 65_535;
+
+// The refusal of reserved sublayers, directly behind that of id 0.
+const SUBLAYERS: u32 = 5;
 
 // What stands in the numbers before a call.
 const LENGTH_BEFORE: u64 = 0x1122_3344_5566_7788;
@@ -45,16 +48,34 @@ impl Judged {
         Self { judges, reading, rbsp }
     }
 
-    // Counts the unit where the second judge has an answer. The judges may differ in one way alone.
+    // Counts the unit where the second judge has an answer. The judges may differ as the rules say, and not otherwise.
     fn count(&self, unit: &[u8], report: &mut Report) {
-        if self.judges.set_aside() {
-            let accepted = matches!(self.reading, Reading::Accepted { .. });
-            report.ruled(if accepted { Ruled::UnitAccepted } else { Ruled::UnitRefused });
-        } else if self.judges.both_say() {
-            report.ruled(Ruled::UnitOfBoth);
+        if let Some(what) = self.ruled() {
+            report.ruled(what);
         }
         if !self.judges.as_claimed() {
-            report.difference(|| format!("the Rust and the rule of extension bits: {}", hex_of(unit)));
+            report.difference(|| format!("the Rust and the rules of extension bits and of id 0: {}", hex_of(unit)));
+        }
+    }
+
+    fn ruled(&self) -> Option<Ruled> {
+        let accepted = matches!(self.reading, Reading::Accepted { .. });
+        match (self.judges.set_aside(), self.judges.found_with_any_id()) {
+            (Some(Rule::Id), Ok(_)) => Some(Ruled::IdZeroAccepted),
+            (Some(Rule::Id), Err(SUBLAYERS)) => Some(Ruled::IdZeroSublayers),
+            (Some(Rule::Id), Err(_)) => Some(Ruled::IdZeroRefused),
+            (Some(Rule::Extension), _) if accepted => Some(Ruled::UnitAccepted),
+            (Some(Rule::Extension), _) => Some(Ruled::UnitRefused),
+            (None, _) => self.not_set_aside(),
+        }
+    }
+
+    // What a unit shows for which the Rust's answer counts, or a rule of this project that comes before the id's.
+    fn not_set_aside(&self) -> Option<Ruled> {
+        match &self.reading {
+            Reading::Refused(2) if self.judges.has_id_zero() => Some(Ruled::IdZeroOfOtherType),
+            _ if self.judges.has_id_zero() && self.rbsp.len() > MOST_RBSP => Some(Ruled::IdZeroTooLong),
+            _ => self.judges.extension_read().then_some(Ruled::UnitOfBoth),
         }
     }
 

@@ -120,7 +120,7 @@ impl Report {
 
     // What the second judge had too seldom in short units, the answers of what the Rust has not among them.
     pub fn few_of_short_units(&self) -> Vec<String> {
-        let answers = self.few_answers([page_answers(), figure_answers()].concat());
+        let answers = self.few_answers([page_answers(), figure_answers(), id_zero_answers()].concat());
         answers.into_iter().chain(self.few_of_second_judge(true)).collect()
     }
 
@@ -157,7 +157,13 @@ fn expected() -> Vec<(&'static str, Answer)> {
         ["vps_section of a record", "vps_section over 8", "vps_section of a broken list"]
             .map(|call| (call, Answer::Success)),
     );
+    all.extend(id_zero_answers());
     all
+}
+
+// A unit with id 0 is refused, and a list with id 0 has no sections.
+fn id_zero_answers() -> Vec<(&'static str, Answer)> {
+    vec![("vps_parse", Answer::Refused(34)), ("vps_section of a list with id 0", Answer::Success)]
 }
 
 // A page of each mode, and its refusals.

@@ -1,6 +1,7 @@
 // Sections: vps_section against the trailer of a record that is well formed, and the empty part at the end otherwise.
 use crate::calls;
 use crate::report::{shown, Answer, Report};
+use judge::id_rule::refuses_list;
 use judge::random::Random;
 
 const BEFORE: u64 = 0xdead_beef_0000_0001;
@@ -21,7 +22,12 @@ impl Sections {
             let (call, start, end) = if number > 8 {
                 ("vps_section over 8", record.len(), record.len())
             } else if !well_formed {
-                ("vps_section of a broken list", record.len(), record.len())
+                let call = if refuses_list(record) {
+                    "vps_section of a list with id 0"
+                } else {
+                    "vps_section of a broken list"
+                };
+                (call, record.len(), record.len())
             } else {
                 let (start, end) = part(record, number as usize);
                 ("vps_section of a record", start, end)

@@ -1,11 +1,12 @@
 // Writing: vps_write against the Rust, which also says what is well formed (judge::record); against the second
-// judge of extension bits where they end in 0.
+// judge where extension bits end in 0 and where the id is 0.
 use crate::buffers::Guarded;
 use crate::calls;
 use crate::counts::Ruled;
 use crate::reading::around;
 use crate::report::{shown, Answer, Report};
 use bitstream::h266::VvcVps;
+use judge::judges::Rule;
 use judge::random::Random;
 use judge::record::{set_aside, written_and_read, written_by_rust};
 use judge::show::hex_of;
@@ -65,12 +66,16 @@ impl Writer {
     }
 }
 
-// Counts a list whose extension ends in 0. The Rust writes none.
+// Counts a list that is set aside. Of those whose extension ends in 0 the Rust writes none.
 fn count(list: &[u32], well_formed: bool, report: &mut Report) {
-    if set_aside(list) {
-        report.ruled(if well_formed { Ruled::ListWritten } else { Ruled::ListRefused });
-        if written_by_rust(list) {
-            report.difference(|| format!("the Rust writes a list whose extension ends in 0: {}", shown(list)));
+    match set_aside(list) {
+        None => {}
+        Some(Rule::Id) => report.ruled(Ruled::IdZeroList),
+        Some(Rule::Extension) => {
+            report.ruled(if well_formed { Ruled::ListWritten } else { Ruled::ListRefused });
+            if written_by_rust(list) {
+                report.difference(|| format!("the Rust writes a list whose extension ends in 0: {}", shown(list)));
+            }
         }
     }
 }

@@ -1,5 +1,6 @@
 // The tables of crates/definition_units: small units and records with the judges' answers, as antt.
-use crate::extension_rule::Judges;
+use crate::id_rule::ID_ZERO;
+use crate::judges::{Judges, Rule};
 use crate::record::{Reading, read, record_of, set_aside, structure_of, written};
 use crate::refusal::numbers;
 use crate::show::{hex_of, unit_of};
@@ -45,7 +46,7 @@ const FILES: [(&str, &str, &[&str]); 5] = [
     (
         "UnitsRefused",
         "Units with something that is refused, and behind it the rest, the end, zeros or ones.",
-        &["refused item", "no direct reference", "no output layer", "no multi-layer set", "zeros for a code"],
+        &["refused item", "no direct reference", "no output layer", "no multi-layer set", "zeros for a code", "id 0"],
     ),
     (
         "UnitsCut",
@@ -79,13 +80,12 @@ pub fn write(folder: &str) -> std::io::Result<String> {
     let units: Vec<&Answered> = files.into_iter().flat_map(|(_, _, units)| units).collect();
     let both = units.iter().filter(|answered| way_back(answered)).count();
     Ok(format!(
-        "{}{}accepted, with the way back {both}\nrecords changed and written {}, not well formed {}\nset aside of these {}, {}\n",
+        "{}{}accepted, with the way back {both}\nrecords changed and written {}, not well formed {}\n{}",
         counts(&units),
         units_set_aside(&units),
         records.good,
         records.broken,
-        records.set_aside[0],
-        records.set_aside[1],
+        records.set_aside(),
     ))
 }
 
@@ -133,7 +133,7 @@ fn chosen(stream: &Stream) -> Vec<Answered> {
         let unit = units.next();
         let reading = read(&unit.bytes);
         let answer = answer_of(&reading);
-        let many = layers(&unit.bytes) > MOST_LAYERS && !matches!(answer, Answer::Refused(1..=7));
+        let many = layers(&unit.bytes) > MOST_LAYERS && !matches!(answer, Answer::Refused(1..=7 | ID_ZERO));
         if many || unit.bytes.len() < stream.shortest {
             continue;
         }
@@ -179,11 +179,16 @@ fn counts(units: &[&Answered]) -> String {
     text
 }
 
-// How many units are set aside, so that the answer is the second judge's.
+// How many units each rule sets aside, so that the answer is the second judge's.
 fn units_set_aside(units: &[&Answered]) -> String {
-    let of_rule: Vec<_> = units.iter().filter(|(unit, _)| Judges::of(&unit.bytes).set_aside()).collect();
-    let accepted = of_rule.iter().filter(|(_, reading)| matches!(reading, Reading::Accepted { .. })).count();
-    format!("set aside: accepted {accepted}, refused 28 {}\n", of_rule.len() - accepted)
+    let mut counts: BTreeMap<(Rule, &str), usize> = BTreeMap::new();
+    for (unit, reading) in units {
+        if let Some(rule) = Judges::of(&unit.bytes).set_aside() {
+            let words = if matches!(reading, Reading::Accepted { .. }) { "accepted" } else { "refused" };
+            *counts.entry((rule, words)).or_default() += 1;
+        }
+    }
+    counts.iter().map(|((rule, words), count)| format!("set aside, {}: {words} {count}\n", rule.name())).collect()
 }
 
 // ── Records ─────────────────────────────────────────────────────────────
@@ -196,14 +201,15 @@ struct Records {
     table: Table,
     good: usize,
     broken: usize,
-    // of the good and of the broken, those that the second judge says
-    set_aside: [usize; 2],
+    // those that the second judge says, by rule, and whether they are good
+    set_aside: BTreeMap<(Rule, bool), usize>,
     seen: HashSet<Vec<u32>>,
 }
 
 impl Records {
     fn made() -> Self {
-        let mut records = Self { table: Table::default(), good: 0, broken: 0, set_aside: [0; 2], seen: HashSet::new() };
+        let mut records =
+            Self { table: Table::default(), good: 0, broken: 0, set_aside: BTreeMap::new(), seen: HashSet::new() };
         let u = vps_of(U);
         let d = vps_of(D);
         records.lengths("u", &record_of(&u));
@@ -232,8 +238,8 @@ impl Records {
             return;
         }
         let unit = written(&numbers);
-        if set_aside(&numbers) {
-            self.set_aside[usize::from(unit.is_none())] += 1;
+        if let Some(rule) = set_aside(&numbers) {
+            *self.set_aside.entry((rule, unit.is_some())).or_default() += 1;
         }
         let line = match unit {
             Some(unit) => {
@@ -246,6 +252,12 @@ impl Records {
             }
         };
         self.table.entries.push((about.to_string(), line));
+    }
+
+    fn set_aside(&self) -> String {
+        let words = |good: bool| if good { "written" } else { "not well formed" };
+        let counts = self.set_aside.iter();
+        counts.map(|((rule, good), count)| format!("set aside, {}: {} {count}\n", rule.name(), words(*good))).collect()
     }
 
     // A record that others are made of.

@@ -35,8 +35,8 @@ pub fn ends_in_zero(v: &VvcVps) -> bool {
 // What a judge says of a unit: the structure and the bits used, or a refusal's number.
 pub type Found = Result<(VvcVps, usize), u32>;
 
-const STOP_BIT_MISSING: u32 = 27;
-const STOP_BIT_ZERO: u32 = 28;
+pub const STOP_BIT_MISSING: u32 = 27;
+pub const STOP_BIT_ZERO: u32 = 28;
 
 pub fn found_by_rust(unit: &[u8]) -> Found {
     let vps = parse_vps(unit).map_err(|error| number_of(&error))?;
@@ -82,61 +82,6 @@ fn table_of(header: &[u8], rbsp: &[u8]) -> Option<(VvcVps, usize)> {
             return None;
         }
         count = rbsp.len().min(count + count / 4 + 1);
-    }
-}
-
-// The answer that counts: the Rust's, but the rule's for a unit that the Rust refuses with 28 under extension flag 1.
-pub fn found(unit: &[u8]) -> Found {
-    match found_by_rust(unit) {
-        Err(STOP_BIT_ZERO) => found_by_rule(unit).unwrap_or(Err(STOP_BIT_ZERO)),
-        by_rust => by_rust,
-    }
-}
-
-// Both judges of a unit.
-pub struct Judges {
-    by_rust: Found,
-    by_rule: Option<Found>,
-}
-
-impl Judges {
-    // The rule is asked where the Rust says that a flag of 1 was read, and where it refuses the trailing bits.
-    pub fn of(unit: &[u8]) -> Self {
-        let by_rust = found_by_rust(unit);
-        let by_rule = match &by_rust {
-            Ok((vps, _)) if vps.vps_extension_flag == 0 => None,
-            Err(..STOP_BIT_MISSING) => None,
-            _ => found_by_rule(unit),
-        };
-        Self { by_rust, by_rule }
-    }
-
-    // Whether the Rust refuses the unit with 28 under extension flag 1.
-    pub fn set_aside(&self) -> bool {
-        self.by_rust == Err(STOP_BIT_ZERO) && self.by_rule.is_some()
-    }
-
-    // Whether the unit is read up to an extension flag of 1, so that the rule has an answer.
-    pub fn both_say(&self) -> bool {
-        self.by_rule.is_some()
-    }
-
-    // The answer that counts, as `found` has it.
-    pub fn found(&self) -> &Found {
-        match &self.by_rule {
-            Some(by_rule) if self.set_aside() => by_rule,
-            _ => &self.by_rust,
-        }
-    }
-
-    // Whether the two say the same, or differ as they may: the Rust refuses with 28, and by the rule there is a structure
-    // with extension flag 1 and extension bits that end in 0.
-    pub fn as_claimed(&self) -> bool {
-        match (&self.by_rust, &self.by_rule) {
-            (_, None) => true,
-            (Err(STOP_BIT_ZERO), Some(Ok((vps, _)))) => vps.vps_extension_flag == 1 && ends_in_zero(vps),
-            (by_rust, Some(by_rule)) => by_rust == by_rule,
-        }
     }
 }
 

@@ -1,7 +1,7 @@
 // The second judge, for bit rates, buffer sizes and picture intervals, which the Rust has not: the request's text written
 // out over the Rust's structures, in numbers of 128 bits, so that one too long for 64 would be seen. How many sublayers and
 // schedules there are is held to the Rust's own lists.
-use crate::extension_rule::found;
+use crate::judges::found;
 use bitstream::h266::{
     VvcCpbSchedule, VvcGeneralTimingHrd, VvcOlsTimingHrdSublayer, VvcVps, VvcVpsOlsHrd, VvcVpsTimingHrd,
 };

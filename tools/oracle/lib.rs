@@ -1,11 +1,13 @@
-// The Rust as judge, and a second judge for extension bits, the layer page, and rates, sizes and intervals: their answers in
-// the numbers of 01, and makers of units, records and lists.
+// The Rust as judge, and a second judge for extension bits, id 0, the layer page, and rates, sizes and intervals: their
+// answers in the numbers of 01, and makers of units, records and lists.
 pub mod broken;
 pub mod changed_records;
 pub mod definition_units;
 pub mod draft;
 pub mod extension_rule;
 pub mod figures;
+pub mod id_rule;
+pub mod judges;
 pub mod leaves;
 pub mod list;
 pub mod page;

@@ -1,6 +1,6 @@
 // The second judge, for the layer page, which the Rust has not: the request's text written out over the Rust's structures.
 // How many sets there are, and how many of them have several layers, is held to the Rust's own counts.
-use crate::extension_rule::found;
+use crate::judges::found;
 use bitstream::h266::VvcVps;
 use std::collections::BTreeSet;
 

@@ -1,5 +1,7 @@
 // The record of 01 from the Rust's structure of a VPS, and back.
-use crate::extension_rule::{Found, ends_in_zero, found, write_rbsp, write_unit};
+use crate::extension_rule::{Found, ends_in_zero, write_rbsp, write_unit};
+use crate::id_rule::refuses_list;
+use crate::judges::{Rule, found, found_with_any_id};
 use bitstream::h266::{
     VvcCpbSchedule, VvcDpbEntry, VvcDpbParameters, VvcGeneralTimingHrd, VvcOlsTimingHrd, VvcOlsTimingHrdSublayer,
     VvcProfileTierLevel, VvcSublayerHrd, VvcVps, VvcVpsDpb, VvcVpsLayer, VvcVpsOlsDpb, VvcVpsOlsHrd, VvcVpsPtl,
@@ -33,24 +35,33 @@ pub fn structure_of(unit: &[u8]) -> Option<VvcVps> {
 }
 
 // The bytes of a well-formed record, or nothing. The Rust's writer accepts more than 01 calls well formed; a list is
-// well formed if it has the layout, it is written in at most 65,535 bytes of RBSP, and reading that gives the list.
+// well formed if its id isn't 0, it has the layout, it is written in at most 65,535 bytes of RBSP, and reading that gives
+// the list.
 pub fn written(list: &[u32]) -> Option<Vec<u8>> {
     written_and_read(list).map(|(unit, _)| unit)
 }
 
 // The bytes, and the structure that reading them gives.
 pub fn written_and_read(list: &[u32]) -> Option<(Vec<u8>, VvcVps)> {
+    if refuses_list(list) { None } else { written_with_any_id(list) }
+}
+
+fn written_with_any_id(list: &[u32]) -> Option<(Vec<u8>, VvcVps)> {
     let vps = vps_of(list)?;
     let rbsp = write_rbsp(&vps).ok()?;
     let unit = write_unit(&vps).ok()?;
-    let (back, bits_used) = found(&unit).ok()?;
+    let (back, bits_used) = found_with_any_id(&unit).ok()?;
     let same = record_of(&back) == list && bits_used == 8 * rbsp.len();
     (rbsp.len() <= 65_535 && same).then_some((unit, back))
 }
 
-// Whether a list is written, or refused, by the second judge: it has the layout, and its extension ends in 0.
-pub fn set_aside(list: &[u32]) -> bool {
-    vps_of(list).is_some_and(|vps| ends_in_zero(&vps))
+// The rule by which a list is written, or refused, in place of the Rust: it has id 0 and is well formed but for that, or it
+// has the layout and its extension ends in 0.
+pub fn set_aside(list: &[u32]) -> Option<Rule> {
+    if refuses_list(list) && written_with_any_id(list).is_some() {
+        return Some(Rule::Id);
+    }
+    vps_of(list).filter(ends_in_zero).map(|_| Rule::Extension)
 }
 
 // Whether the Rust's writer takes a list.

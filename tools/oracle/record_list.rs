@@ -5,6 +5,8 @@ use crate::broken::{
 };
 use crate::changed_records::changed;
 use crate::draft::{Coded, Draft};
+use crate::id_rule::list_with_id_zero;
+use crate::judges::Rule;
 use crate::list::{List, put_number};
 use crate::random::Random;
 use crate::record::{self, Reading, read, record_of, structure_of, written};
@@ -34,6 +36,9 @@ const LENGTH_EACH: usize = 40;
 const RANDOM_EACH: usize = 1_400;
 const LONGER_EACH: usize = 24;
 const LONGEST_EACH: usize = 3;
+
+// One well-formed record in so many comes with id 0 too.
+const ONE_IN: usize = 5;
 
 // So many cases of a kind come from a structure.
 const OF_A_STRUCTURE: usize = 6;
@@ -77,7 +82,8 @@ struct Case {
 
 // The kinds in the order of the list.
 fn kinds() -> Vec<String> {
-    let mut kinds: Vec<String> = ["well formed", "more room", "short output", "limits"].map(String::from).to_vec();
+    let mut kinds: Vec<String> =
+        ["well formed", "more room", "short output", "limits", "id 0"].map(String::from).to_vec();
     kinds.extend(["other value", "width", "inferred", "uncoded part"].map(String::from));
     let numbers: BTreeSet<u32> = RULES.iter().map(|rule| rule.number).collect();
     kinds.extend(numbers.iter().map(|number| format!("rule {number}")));
@@ -102,13 +108,15 @@ pub fn list() -> List {
     list
 }
 
-// How many cases each answer has whose record is set aside, so that the answer is the second judge's.
+// How many cases of each rule and answer have a record that is set aside, so that the answer is the second judge's.
 pub fn set_aside() -> String {
-    let mut counts: BTreeMap<Answer, usize> = BTreeMap::new();
-    for case in cases().iter().filter(|case| record::set_aside(&case.record)) {
-        *counts.entry(case.recorded().0).or_default() += 1;
+    let mut counts: BTreeMap<(Rule, Answer), usize> = BTreeMap::new();
+    for case in cases() {
+        if let Some(rule) = record::set_aside(&case.record) {
+            *counts.entry((rule, case.recorded().0)).or_default() += 1;
+        }
     }
-    counts.iter().map(|(answer, count)| format!("{}: {count}\n", answer.name())).collect()
+    counts.iter().map(|((rule, answer), count)| format!("{}: {}: {count}\n", rule.name(), answer.name())).collect()
 }
 
 // How many cases that are written show each shape, and how many each way of making has.
@@ -216,6 +224,7 @@ fn cases() -> Vec<Case> {
     cases.limits();
     cases.long();
     cases.short_lists();
+    cases.with_id_zero();
     cases.cases
 }
 
@@ -397,6 +406,22 @@ impl Cases {
             ] {
                 self.add_changed("short list", way, 21, numbers);
             }
+        }
+    }
+
+    // ── Id 0 ──
+
+    // Well-formed records again with id 0, and with as much room or as little: 31 each time.
+    fn with_id_zero(&mut self) {
+        let kinds = ["well formed", "more room", "short output", "limits"];
+        let good =
+            self.cases.iter().filter(|case| kinds.contains(&case.kind.as_str()) && written(&case.record).is_some());
+        let others: Vec<_> = good
+            .step_by(ONE_IN)
+            .filter_map(|case| Some((case.kind.clone(), list_with_id_zero(&case.record)?, case.room)))
+            .collect();
+        for (way, record, room) in others {
+            self.add("id 0", &way, usize::MAX, record, room);
         }
     }
 

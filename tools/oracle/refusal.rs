@@ -1,7 +1,9 @@
-// 01's number of each refusal of the Rust's reader, by the words of its error.
+// The number of each refusal of the Rust's reader, by the words of its error.
+use crate::id_rule::ID_ZERO;
 use bitstream::BitstreamError;
 
-// How each message begins. 3, 4 and 30 to 32 speak of lengths and buffers that the Rust's reader does not know.
+// How each message begins. 3, 4 and 30 to 32 speak of lengths and buffers that the Rust's reader does not know, and 34 of an
+// id that it takes.
 const NUMBERS: [(&str, u32); 27] = [
     ("H.266 VPS NAL needs at least the 2-byte header", 1),
     ("expected VPS NAL", 2),
@@ -45,7 +47,7 @@ pub fn number_of(error: &BitstreamError) -> u32 {
     number
 }
 
-// Every number that the Rust's reader gives.
+// Every number that the judges give for a unit.
 pub fn numbers() -> impl Iterator<Item = u32> {
-    NUMBERS.iter().map(|(_, number)| *number)
+    NUMBERS.iter().map(|(_, number)| *number).chain([ID_ZERO])
 }

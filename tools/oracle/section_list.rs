@@ -2,11 +2,13 @@
 // sections of a well-formed record are comes from the lengths that the sections of its structure have one by one.
 // That every other list, and every number over 8, gives the empty part at the end is a rule of this project.
 use crate::changed_records::changed;
+use crate::id_rule::list_with_id_zero;
+use crate::judges::Rule;
 use crate::list::{List, put_number};
 use crate::random::Random;
 use crate::record::{self, record_of, section_lengths, structure_of, written};
 use crate::structures::{MODES, Maker, Mode};
-use std::collections::HashSet;
+use std::collections::{BTreeMap, HashSet};
 
 const SEED: u64 = 0x5345_4354;
 
@@ -28,6 +30,9 @@ const MOST_CHANGED: usize = 120;
 const CHANGED_EACH: usize = 120;
 const TRAILER_EACH: usize = 6;
 
+// One well-formed record in so many comes with id 0 too.
+const ONE_IN: usize = 4;
+
 pub fn list() -> List {
     let mut list = List::new(CONTENT);
     for (name, records) in kinds() {
@@ -37,12 +42,15 @@ pub fn list() -> List {
     list
 }
 
-// How many records are set aside, so that the second judge says whether they are well formed: those that are, and those
-// that are not.
+// How many records each rule sets aside, so that the second judge says whether they are well formed.
 pub fn set_aside() -> String {
-    let all: Vec<Case> = kinds().into_iter().flat_map(|(_, records)| records).collect();
-    let count = |answer| all.iter().filter(|(list, good)| *good == answer && record::set_aside(list)).count();
-    format!("well formed: {}\nnot well formed: {}\n", count(true), count(false))
+    let mut counts: BTreeMap<(Rule, &str), usize> = BTreeMap::new();
+    for (list, good) in kinds().into_iter().flat_map(|(_, records)| records) {
+        if let Some(rule) = record::set_aside(&list) {
+            *counts.entry((rule, if good { "well formed" } else { "not well formed" })).or_default() += 1;
+        }
+    }
+    counts.iter().map(|((rule, words), count)| format!("{}: {words}: {count}\n", rule.name())).collect()
 }
 
 // A record, and whether it is well formed.
@@ -51,8 +59,10 @@ type Case = (Vec<u32>, bool);
 fn kinds() -> Vec<(&'static str, Vec<Case>)> {
     let mut kinds = Vec::new();
     let mut small = Vec::new();
+    let mut with_id_zero = Vec::new();
     for mode in MODES {
         let records = records_of(mode);
+        with_id_zero.extend(records.iter().step_by(ONE_IN).filter_map(|record| list_with_id_zero(record)));
         small.extend(records.iter().filter(|record| record.len() <= MOST_CHANGED).cloned());
         kinds.push((mode.name(), records.into_iter().map(|record| (record, true)).collect()));
     }
@@ -60,6 +70,7 @@ fn kinds() -> Vec<(&'static str, Vec<Case>)> {
     kinds.push(("other value", good.into_iter().map(|record| (record, true)).collect()));
     kinds.push(("not well formed", broken.into_iter().map(|record| (record, false)).collect()));
     kinds.push(("trailer", trailers(&small).into_iter().map(|record| (record, false)).collect()));
+    kinds.push(("id 0", with_id_zero.into_iter().map(|record| (record, false)).collect()));
     kinds.push(("short list", (0..=24).map(|length| (small[length][..length].to_vec(), false)).collect()));
     kinds
 }

@@ -1,5 +1,6 @@
 // The Rust's answer for one unit, in words, and the second judge's where that one counts.
-use crate::extension_rule::{Found, Judges};
+use crate::extension_rule::Found;
+use crate::judges::{Judges, Rule};
 use bitstream::h266::{parse_vps, write_vps_nal};
 
 // The bytes of a line of hexadecimal digits.
@@ -17,16 +18,17 @@ pub fn hex_of(bytes: &[u8]) -> String {
 // What reading says, and for an accepted unit its fields and what writing makes of them.
 pub fn answer(unit: &[u8]) -> String {
     let judges = Judges::of(unit);
-    let by_rule = if judges.set_aside() { ruled(judges.found()) } else { String::new() };
+    let by_rule = judges.set_aside().map_or(String::new(), |rule| ruled(rule, judges.found()));
     by_rust(unit) + &by_rule
 }
 
-fn ruled(found: &Found) -> String {
+fn ruled(rule: Rule, found: &Found) -> String {
+    let name = rule.name();
     match found {
-        Err(number) => format!("by the rule of 7.2: refused {number}\n"),
+        Err(number) => format!("by the rule of {name}: refused {number}\n"),
         Ok((vps, bits_used)) => {
             let bits: String = vps.vps_extension_data.iter().map(|bit| format!(" {bit}")).collect();
-            format!("by the rule of 7.2: accepted, bits used {bits_used}, extension bits{bits}\n")
+            format!("by the rule of {name}: accepted, bits used {bits_used}, bits{bits}\n")
         }
     }
 }

@@ -206,7 +206,8 @@ impl Maker {
     fn begun(&mut self, mode: Mode, layers: usize) -> VvcVps {
         let sublayers = if self.one_in(3) { 0 } else { self.random.below(7) as u8 };
         VvcVps {
-            vps_video_parameter_set_id: self.byte(4),
+            // 0 is no id
+            vps_video_parameter_set_id: self.byte(4).max(1),
             vps_max_sublayers_minus1: sublayers,
             vps_default_ptl_dpb_hrd_max_tid_flag: if layers > 1 && sublayers > 0 { self.flag() } else { 1 },
             vps_all_independent_layers_flag: u8::from(!matches!(mode, Mode::Zero | Mode::One | Mode::Two)),

@@ -1,7 +1,7 @@
 // The list that crates/units_replay replays: units of all kinds with the judges' answers, each with a length of the work
 // buffer and of the record. The Rust has no buffers: 3, 4 and 30 are rules of this project, applied to the answers.
 use crate::definition_units::{Answer, answer_of};
-use crate::extension_rule::Judges;
+use crate::judges::{Judges, Rule};
 use crate::list::{List, put_number};
 use crate::record::{Reading, read, record_of, structure_of};
 use crate::show::unit_of;
@@ -70,15 +70,15 @@ pub fn shapes_shown() -> String {
     shown.iter().map(|(name, count)| format!("{name}: {count}\n")).collect()
 }
 
-// How many cases each answer has whose unit is set aside, so that the answer is the second judge's.
+// How many cases of each rule and answer have a unit that is set aside, so that the answer is the second judge's.
 pub fn set_aside() -> String {
-    let mut counts: BTreeMap<Answer, usize> = BTreeMap::new();
+    let mut counts: BTreeMap<(Rule, Answer), usize> = BTreeMap::new();
     for case in cases_of_streams().iter().chain(&long_cases()) {
-        if Judges::of(&case.whole_unit()).set_aside() {
-            *counts.entry(case.recorded().0).or_default() += 1;
+        if let Some(rule) = Judges::of(&case.whole_unit()).set_aside() {
+            *counts.entry((rule, case.recorded().0)).or_default() += 1;
         }
     }
-    counts.iter().map(|(answer, count)| format!("{}: {count}\n", name(answer))).collect()
+    counts.iter().map(|((rule, answer), count)| format!("{}: {}: {count}\n", rule.name(), name(answer))).collect()
 }
 
 fn name(answer: &Answer) -> String {
@@ -179,12 +179,14 @@ fn chosen(stream: &Stream) -> Vec<Unit> {
     taken
 }
 
-// Around the longest RBSP: an accepted unit of one layer, one of two layers, one that is refused, and one of another type,
-// each followed by bytes of ones up to a length of the RBSP; extension bits that end in 0, and none, followed by zeros.
+// Around the longest RBSP: an accepted unit of one layer, the same with id 0, one of two layers, one that is refused, and one
+// of another type, each followed by bytes of ones up to a length of the RBSP; extension bits that end in 0, and none,
+// followed by zeros.
 fn long_cases() -> Vec<Case> {
     let mut cases = Vec::new();
     for hex in [
         "0071100000030233000040ff",
+        "0071000003000233000040ff",
         "0071104000480002330000fc90ff",
         "0071100000030233000041ff",
         "00791000ff",

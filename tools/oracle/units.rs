@@ -1,7 +1,9 @@
 // Units of all kinds with the judges' answers: structures of every mode as they are written, and damaged copies that
 // reach every refusal of the reader.
 use crate::draft::{Coded, Draft, unit_of_rbsp};
-use crate::extension_rule::{Judges, write_unit};
+use crate::extension_rule::write_unit;
+use crate::id_rule::unit_with_id_zero;
+use crate::judges::{Judges, Rule};
 use crate::random::Random;
 use crate::record::{Reading, read, record_of};
 use crate::refusal::numbers;
@@ -23,16 +25,22 @@ pub struct Unit {
 // Units one after the other, each once and none longer than the limit.
 pub struct Units {
     maker: Maker,
+    // chooses the units that come with id 0 too
+    ids: Random,
     longest: usize,
     bases: usize,
     seen: HashSet<Vec<u8>>,
     pending: VecDeque<Unit>,
 }
 
+// One unit in so many comes with id 0 too.
+const ID_ZERO: usize = 24;
+
 impl Units {
     pub fn new(seed: u64, longest: usize) -> Self {
         let mut units = Self {
             maker: Maker { random: Random::new(seed), small: longest <= 64 },
+            ids: Random::new(!seed),
             longest,
             bases: 0,
             seen: HashSet::new(),
@@ -40,7 +48,7 @@ impl Units {
         };
         for hex in NAMED {
             let bytes = unit_of(hex).expect("pairs of hexadecimal digits");
-            units.add("named", bytes);
+            units.put("named", bytes);
         }
         units
     }
@@ -55,6 +63,14 @@ impl Units {
     }
 
     fn add(&mut self, kind: &'static str, bytes: Vec<u8>) {
+        let with_id_zero = if self.ids.below(ID_ZERO) == 0 { unit_with_id_zero(&bytes) } else { None };
+        self.put(kind, bytes);
+        if let Some(other) = with_id_zero {
+            self.put(if kind == "written" { "id 0" } else { kind }, other);
+        }
+    }
+
+    fn put(&mut self, kind: &'static str, bytes: Vec<u8>) {
         if bytes.len() <= self.longest && self.seen.insert(bytes.clone()) {
             self.pending.push_back(Unit { bytes, kind });
         }
@@ -332,7 +348,7 @@ fn targets(v: &VvcVps, draft: &Draft) -> Vec<Vec<Target>> {
 }
 
 // Units that 01 names or that show a point in which a reader is easily wrong.
-const NAMED: [&str; 44] = [
+const NAMED: [&str; 53] = [
     // U, U and more, U with other last bytes
     "0071100000030233000040",
     "0071100000030233000040ff",
@@ -351,6 +367,17 @@ const NAMED: [&str; 44] = [
     "0069",
     "0071",
     "00711038",
+    // nothing behind the id and the first bits of the layers; id 0, U with it and its greatest, and what is refused before it
+    // and behind it
+    "007110",
+    "007100",
+    "00710f",
+    "0071000003000233000040",
+    "0071f00000030233000040",
+    "0071f038",
+    "00710038",
+    "0079000003000233000040",
+    "007900",
     // other header bytes
     "ff77100000030233000040",
     "ff6f100000030233000040",
@@ -418,15 +445,15 @@ pub fn summary(seed: u64, count: usize, longest: usize) -> String {
     let mut shown: BTreeMap<&str, usize> = BTreeMap::new();
     let mut kinds: BTreeMap<&str, (usize, usize)> = BTreeMap::new();
     let mut accepted = 0;
-    let mut set_aside = [0; 2];
+    let mut set_aside: BTreeMap<(Rule, bool), usize> = BTreeMap::new();
     for _ in 0..count {
         let unit = units.next();
         let kind = kinds.entry(unit.kind).or_default();
         kind.0 += 1;
         let judges = Judges::of(&unit.bytes);
         assert!(judges.as_claimed(), "the judges differ only as they may: {}", hex_of(&unit.bytes));
-        if judges.set_aside() {
-            set_aside[usize::from(judges.found().is_err())] += 1;
+        if let Some(rule) = judges.set_aside() {
+            *set_aside.entry((rule, judges.found().is_ok())).or_default() += 1;
         }
         match judges.found() {
             Ok((v, _)) => {
@@ -440,7 +467,13 @@ pub fn summary(seed: u64, count: usize, longest: usize) -> String {
         }
     }
     let mut text = format!("units {count}, accepted {accepted}\n");
-    text.push_str(&format!("set aside: accepted {}, refused 28 {}\n", set_aside[0], set_aside[1]));
+    for ((rule, accepted), count) in set_aside {
+        text.push_str(&format!(
+            "set aside, {}: {} {count}\n",
+            rule.name(),
+            ["refused", "accepted"][usize::from(accepted)]
+        ));
+    }
     for (number, count) in refused {
         text.push_str(&format!("refused {number}: {count}\n"));
     }

@@ -57,7 +57,7 @@ table =
     ∷ broken (set u 0 2)
     ∷ broken (set u 0 0)
     ∷ written (set u 1 2) 11 0x0071200000030233000040
-    ∷ written (set u 1 0) 11 0x0071000003000233000040
+    ∷ broken (set u 1 0)
     ∷ written (set u 1 15) 11 0x0071f00000030233000040
     ∷ broken (set u 1 16)
     ∷ broken (set u 2 1)
@@ -170,7 +170,7 @@ table =
     ∷ broken (set d 0 3)
     ∷ broken (set d 0 1)
     ∷ written (set d 1 2) 13 0x0071204000480002330000fc90
-    ∷ written (set d 1 0) 13 0x0071004000480002330000fc90
+    ∷ broken (set d 1 0)
     ∷ written (set d 1 15) 13 0x0071f04000480002330000fc90
     ∷ broken (set d 1 16)
     ∷ broken (set d 2 1)
@@ -536,7 +536,7 @@ table =
     ∷ broken (set d_sublayers 0 3)
     ∷ broken (set d_sublayers 0 1)
     ∷ written (set d_sublayers 1 2) 26 0x0071205000240040023300402300cff9800001f4800075301904
-    ∷ written (set d_sublayers 1 0) 26 0x0071005000240040023300402300cff9800001f4800075301904
+    ∷ broken (set d_sublayers 1 0)
     ∷ written (set d_sublayers 1 15) 26 0x0071f05000240040023300402300cff9800001f4800075301904
     ∷ broken (set d_sublayers 1 16)
     ∷ broken (set d_sublayers 2 3)
@@ -728,7 +728,7 @@ table =
     ∷ broken (set two_of_each 0 5)
     ∷ broken (set two_of_each 0 3)
     ∷ written (set two_of_each 1 2) 31 0x007120c0004844190010023300003300a55fe7959c00000fa40003a98040a9
-    ∷ written (set two_of_each 1 0) 31 0x007100c0004844190010023300003300a55fe7959c00000fa40003a98040a9
+    ∷ broken (set two_of_each 1 0)
     ∷ written (set two_of_each 1 15) 31 0x0071f0c0004844190010023300003300a55fe7959c00000fa40003a98040a9
     ∷ broken (set two_of_each 1 16)
     ∷ broken (set two_of_each 2 1)
