@@ -6,7 +6,7 @@ use Rattle.refusals.specs.Answer.Answer.{refusal}
 use Rattle.refusals.specs.Number.{stop_bit_zero, not_well_formed, id_zero}
 use Rattle.stuffing.specs.Stuffing.{unstuff}
 use Rattle.bits.specs.Bits.{field_at}
-use Rattle.vps_definition.specs.Rules.{Rules, refusing_id, taking_id}
+use Rattle.vps_definition.specs.Rules.{Rules, today, refusing_id, taking_id}
 use Rattle.vps_definition.specs.Record.{start_of}
 use Rattle.vps_definition.specs.Layout.{extension_in}
 use Rattle.vps_definition.specs.Reading.{Reading, most_rbsp_bytes, vps_nut, read_unit_under}
@@ -18,8 +18,10 @@ use Rattle.vps_laws.proofs.LongerExtension.{answer_longer}
 use Rattle.vps_laws.specs.LongerExtension.Longer.{as_before, ends_in_zero}
 use Rattle.vps_laws.proofs.AnyExtension.{others_well_formed}
 use Rattle.vps_laws.proofs.Units.{written_read}
-use Rattle.vps_laws.specs.Claims.{accepted_reads, well_formed_written}
+use Rattle.vps_laws.specs.Claims.{accepted_reads, refused_ill_formed, well_formed_written}
 use Rattle.vps_laws.specs.Records.{ill_formed_refused}
+use Rattle.vps_laws.specs.Lookup.{Found}
+use Rattle.vps_laws.proofs.Lookup.{found_ill_formed}
 use Rattle.vps_laws.specs.Order.{header_first}
 use Rattle.vps_laws.specs.Says.{ReadingSays}
 use Rattle.vps_laws.proofs.IdRule.{IdMoved, id_moved, rbsp_refuses, record_same, accepted_id, Another, unit_other}
@@ -81,6 +83,14 @@ id_zero_is_refused rules u l h k z = (header_first (refusing_id rules) u).within
 pub id_zero_was_no_answer : (rules : Rules) (u : List ℕ) → read_unit_under (taking_id rules) u ≡ refuses id_zero → ⊥
 id_zero_was_no_answer rules u e = (subst (ReadingSays Another) e (unit_other rules u)).is refl
 
+-- Every other unit has the answer of before.
+pub units_with_an_id_stay : (rules : Rules) (u : List ℕ) → 0 < field_at (unstuff (drop 2 u)) 0 4 → read_unit_under (refusing_id rules) u ≡ read_unit_under (taking_id rules) u
+units_with_an_id_stay rules u l = go (id_moved rules u)
+  where
+    go : {R S : Reading} → IdMoved (unstuff (drop 2 u)) R S → R ≡ S
+    go id_same = refl
+    go (id_refused z) = absurd (omega (arith, z, l))
+
 -- So a unit is accepted exactly if it was before with an id above 0, with the same record and bits used.
 pub accepted_with_an_id : (rules : Rules) (u r : List ℕ) (n : ℕ)
     → (read_unit_under (refusing_id rules) u ≡ accepts r n) ↔ ((read_unit_under (taking_id rules) u ≡ accepts r n) × (0 < get_or r 1 0))
@@ -117,3 +127,7 @@ id_zero_is_not_written rules r z = ill_formed_refused (refusing_id rules) r (go 
 -- Every other record is written as before: to the same bytes, or refused.
 pub records_with_an_id_stay : (rules : Rules) (r : List ℕ) → 0 < get_or r 1 0 → write_record_under (refusing_id rules) r ≡ write_record_under (taking_id rules) r
 records_with_an_id_stay = record_same
+
+-- Lookup gives the empty part at the end of a record with id 0.
+pub id_zero_has_no_section : (r : List ℕ) (k : ℕ) → get_or r 1 0 ≡ 0 → Found r k (length r) (length r)
+id_zero_has_no_section r k z = found_ill_formed r k (refused_ill_formed today r (id_zero_is_not_written today r z))

@@ -1,18 +1,27 @@
 -- What each change of a rule changed in parse_vps and write_vps_nal as they stand, whatever the buffers held: a call's answer beside
 -- that of the rule of before.
-use Rattle.std.specs.Prelude.{ℕ, ◌+◌, ◌≡◌, List, [], ◌∷◌, ◌++◌, true, length, get_or}
+use Rattle.std.specs.Prelude.{ℕ, ◌+◌, ◌/◌, ◌≤◌, ◌<◌, ◌≡◌, List, [], ◌∷◌, ◌++◌, true, ◌↔◌, length, get_or, drop}
+use Rattle.std.proofs.Common.{sym, ap, ◌∙◌, arith}
 use Rattle.std.proofs.lemmas.List.Edits.{sets}
-use Rattle.refusals.specs.Number.{stop_bit_zero}
-use Rattle.vps_definition.specs.Rules.{today}
+use Rattle.refusals.specs.Answer.Answer.{success, refusal}
+use Rattle.refusals.specs.Number.{work_too_short, sublayers_reserved, stop_bit_zero, not_well_formed, id_zero}
+use Rattle.lists.specs.Stored.{overlaid}
+use Rattle.stuffing.specs.Stuffing.{unstuff}
+use Rattle.bits.specs.Bits.{field_at}
+use Rattle.vps_definition.specs.Rules.{today, taking_id}
 use Rattle.vps_definition.specs.Record.{start_of}
 use Rattle.vps_definition.specs.Layout.{extension_in}
-use Rattle.vps_definition.specs.Reading.{read_unit}
+use Rattle.vps_definition.specs.Reading.{most_rbsp_bytes, vps_nut, read_unit_under, read_unit}
 use Rattle.vps_definition.specs.Reading.Reading.{accepts, refuses}
-use Rattle.vps_definition.specs.Writing.{all_flags, well_formed}
-use Rattle.vps_laws.specs.Claims.{well_formed_written}
+use Rattle.vps_definition.specs.Writing.{all_flags, write_record_under, write_record, well_formed}
+use Rattle.vps_laws.specs.Units.{not_accepts}
+use Rattle.vps_laws.specs.Claims.{refused_ill_formed, well_formed_written}
 use Rattle.vps_laws.specs.LongerExtension.{unit_with_shorter_extension}
 use Rattle.vps_laws.proofs.Changes as Changed
-use Rattle.vps_promises.specs.Calls.{ReadCall, ReadRoom, Reads, Refuses, WriteCall, WriteRoom, Puts, accepted_reads, refuses_refused, written_puts}
+use Rattle.vps_reader.specs.Parse.{parse_number}
+use Rattle.vps_writer.specs.Write.{written_answer}
+use Rattle.vps_promises.specs.Calls.{ReadCall, said, ReadRoom, Reads, Refuses, Early, WriteCall, WriteRoom, Puts, not_success, accepted_reads, refused_refuses, refuses_refused, refused_leaves, late_fills_work, puts_written, written_puts, refused_leaves_output, ill_formed_refuses}
+use Rattle.vps_promises.proofs.Calls.{reads_accepted}
 
 -- ── Extension bits run up to the last one-bit ─────────────────────────
 -- A unit that was accepted is read with the same record and bits used, and one that is refused was refused with the same number.
@@ -35,3 +44,47 @@ pub any_extension_bits : (r e : List ℕ) → well_formed r ≡ true → all_fla
 any_extension_bits r e h f l w room =
     let W = well_formed_written today (sets r (start_of r 7 + 1) e) (Changed.any_extension_bits today r e h f l) in
     (W.0, written_puts w room W.1)
+
+-- ── Id 0 is refused ───────────────────────────────────────────────────
+-- Every unit that header and length let through and whose id's four bits are 0 is refused with 34, as long as the work buffer has room for its RBSP.
+pub id_zero_is_refused : {u : List ℕ} (c : ReadCall u) → 2 ≤ length u → get_or u 1 0 / 8 ≡ vps_nut → length (unstuff (drop 2 u)) ≤ most_rbsp_bytes
+    → field_at (unstuff (drop 2 u)) 0 4 ≡ 0 → length (unstuff (drop 2 u)) ≤ length c.work → Refuses c id_zero
+id_zero_is_refused {u} c l h k z w =
+    let R = Changed.id_zero_is_refused today u l h k z in
+    refused_refuses c (record { for_rbsp = w; for_record = λ r n e. not_accepts (sym R ∙ e) }) R
+
+-- Refused with 34 as with 5, the work buffer has room for the RBSP and begins with it, and is otherwise as before; and the record is as before.
+abbrev pub Unpacked : {u : List ℕ} → ReadCall u → Type 0
+Unpacked {u} c = (length (unstuff (drop 2 u)) ≤ length c.work) × (c.work_after ≡ overlaid (unstuff (drop 2 u)) c.work) × (c.rec_after ≡ c.rec)
+
+pub id_zero_leaves_work_as_5 : {u : List ℕ} (c : ReadCall u) → (Refuses c id_zero → Unpacked c) × (Refuses c sublayers_reserved → Unpacked c)
+id_zero_leaves_work_as_5 {u} c = (λ N. unpacked N (omega arith), λ N. unpacked N (omega arith))
+  where
+    unpacked : {k : ℕ} → Refuses c k → work_too_short < k → Unpacked c
+    unpacked {k} N l =
+        let W = late_fills_work c (λ e. omega (arith, e.1, N.numbered, l)) in
+        (W.0, (W.1, refused_leaves c (λ m n e. let z : said c ≡ 0 = ap parse_number e in omega (arith, z, N.numbered, N.some))))
+
+-- Every other unit has the answer of before.
+pub units_with_an_id_stay : {u : List ℕ} (c : ReadCall u) → ReadRoom c → 0 < field_at (unstuff (drop 2 u)) 0 4 → (k : ℕ) → Refuses c k ↔ (read_unit_under (taking_id today) u ≡ refuses k)
+units_with_an_id_stay {u} c room l k =
+    let S = Changed.units_with_an_id_stay today u l in
+    (λ N. sym S ∙ refuses_refused c room N, λ e. refused_refuses c room (S ∙ e))
+
+-- A unit is read exactly if it was before with an id above 0, with the same record and bits used.
+pub accepted_with_an_id : {u : List ℕ} (c : ReadCall u) → ReadRoom c → (r : List ℕ) (n : ℕ) → Reads c r n ↔ ((read_unit_under (taking_id today) u ≡ accepts r n) × (0 < get_or r 1 0))
+accepted_with_an_id {u} c room r n =
+    let A = Changed.accepted_with_an_id today u r n in
+    (λ R. A.0 (reads_accepted c R), λ e. accepted_reads c room (A.1 e))
+
+-- The writer refuses a record with id 0 with 31, and leaves the output as it was.
+pub id_zero_is_not_written : {r : List ℕ} (w : WriteCall r) → get_or r 1 0 ≡ 0 → (written_answer w.answer ≡ refusal not_well_formed) × (w.out_after ≡ w.out)
+id_zero_is_not_written {r} w z =
+    let A = ill_formed_refuses w (refused_ill_formed today r (Changed.id_zero_is_not_written today r z)) in
+    (A, refused_leaves_output w (λ n e. not_success (sym A ∙ e)))
+
+-- Every other record is written as before.
+pub records_with_an_id_stay : {r : List ℕ} (w : WriteCall r) → WriteRoom w → 0 < get_or r 1 0 → (u : List ℕ) → Puts w u ↔ (write_record_under (taking_id today) r ≡ success u)
+records_with_an_id_stay {r} w room l u =
+    let S = Changed.records_with_an_id_stay today r l in
+    (λ P. sym S ∙ puts_written w P, λ e. written_puts w room (S ∙ e))
