@@ -13,17 +13,17 @@ use Rattle.vps_definition.specs.Vps.{Header, Layers, Head, head, header_under, h
 use Rattle.vps_laws.specs.Reading.{each_join}
 use Rattle.vps_laws.specs.Bound.{count_most}
 use Rattle.reading.specs.Fits.{Room, Fits}
-use Rattle.read_bounds.specs.Within.{Within, Bounded, Any, within_fits, within_taken, within_so, within_field, within_late, within_keep, within_mark, within_test, within_done, within_end, within_nothing, within_aligned, within_when, within_bind}
-use Rattle.read_bounds.proofs.Within.{within_after, within_one, within_u, within_ue, within_ue_minus1, within_inferred, within_u_if, within_ue_if, within_general, within_general_if, within_checked, within_keeps, within_loop, within_turns, within_repeat, words}
+use Rattle.read_bounds.specs.Within.{Within, Bounded, Any, within_fits, within_taken, within_so, within_field, within_late, within_keep, within_mark, within_test, within_done, within_end, within_nothing, within_aligned, within_when, within_check, within_bind}
+use Rattle.read_bounds.proofs.Within.{within_after, within_one, within_u, within_ue, within_ue_minus1, within_inferred, within_u_if, within_ue_if, within_general, within_general_if, within_checked, within_ruled, within_keeps, within_loop, within_turns, within_repeat, words}
 use Rattle.read_bounds.specs.Bounds.{Small, Fields, sum_most, additional_most, Low, low_at, most_words}
 
 within_header : Within Small 5 header
-unfolding header_under ruled ◌>>=◌
+unfolding header_under ◌>>=◌
 within_header =
     within_one refl (within_general 1 4 refl) λ id.
     within_late refl refl λ n l.
     within_one refl (within_general 2 3 refl) λ top.
-    within_checked (leb top 6) _ λ c e.
+    within_after 0 refl (within_ruled _ _ _ (within_check (leb top 6) _)) λ c e.
     within_one refl (within_general_if _ 3 1 1 refl) λ d.
     within_one refl (within_general_if _ 4 1 1 refl) λ a. within_done (record { layers = omega arith; sublayers = leb-true top 6 e })
 

@@ -1,8 +1,8 @@
 -- How far a reading can go, whatever the bytes are: counted in words, each of at most 64 bits and one number of the record.
-use Rattle.std.specs.Prelude.{ℕ, zero, suc, ◌+◌, ◌*◌, ◌-◌, ◌≤◌, ◌<◌, ◌≡◌, refl, List, [], ◌∷◌, Bool, true, leb, length}
+use Rattle.std.specs.Prelude.{ℕ, zero, suc, ◌+◌, ◌*◌, ◌-◌, ◌≤◌, ◌<◌, ◌≡◌, refl, List, [], ◌∷◌, Bool, true, false, leb, length}
 use Rattle.std.proofs.Common.{subst, arith, leb-true, le-leb}
 use Rattle.vps_definition.specs.Syntax.{Syntax, ◌>>=◌}
-use Rattle.vps_definition.specs.Words.{u, ue, ue_minus1, inferred, u_if, ue_if, general, general_if, check, nothing, keeps, loop, repeat}
+use Rattle.vps_definition.specs.Words.{u, ue, ue_minus1, inferred, u_if, ue_if, general, general_if, check, ruled, nothing, keeps, loop, repeat}
 use Rattle.read_bounds.specs.Within.{Within, Any, within_so, within_field, within_code, within_late, within_keep, within_test, within_done, within_end, within_bind, within_nothing, within_check, within_passed}
 
 -- the second gets what the first leaves
@@ -51,6 +51,12 @@ within_general_if b i w v l = within_test b (within_general i w l) within_end
 
 pub within_checked : {B : Type 0} {R : B → Type 0} {c : ℕ} (b : Bool) (r : ℕ) {g : Unit {0} → Syntax B} → ((o : Unit {0}) → b ≡ true → Within R c (g o)) → Within R c (check b r >>= g)
 within_checked b r G = within_so (within_bind (within_check b r) G) (omega arith)
+
+-- behind a rule's check, or where the rule is not in force
+pub within_ruled : {A : Type 0} {Q : A → Type 0} {c : ℕ} (rule b : Bool) (r : ℕ) {m : Syntax A} → Within Q c m → Within Q c (ruled rule b r m)
+unfolding ruled
+within_ruled true b r M = within_none (within_passed b r) (λ o. M)
+within_ruled false b r M = M
 
 pub within_keeps : (l : List ℕ) → Within Any (length l) (keeps l)
 unfolding keeps nothing
