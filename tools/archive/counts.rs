@@ -20,7 +20,7 @@ pub trait Counted: Copy + Ord + 'static {
 
 // What the second judge has an answer for. Set aside are units that the Rust refuses with 28 under extension flag 1, and
 // lists whose extension ends in 0; of other units with that flag both judges say the same. And units with id 0 that the Rust
-// reads past the id, and lists with id 0 that are well formed but for that.
+// reads past the id, and lists with id 0 that are well formed but for that. What comes before the id is counted beside it.
 #[derive(Clone, Copy, PartialEq, Eq, PartialOrd, Ord)]
 pub enum Ruled {
     UnitAccepted,
@@ -33,6 +33,7 @@ pub enum Ruled {
     IdZeroRefused,
     IdZeroOfOtherType,
     IdZeroTooLong,
+    IdZeroWorkShort,
     IdZeroList,
 }
 
@@ -49,6 +50,7 @@ impl Counted for Ruled {
         Ruled::IdZeroRefused,
         Ruled::IdZeroOfOtherType,
         Ruled::IdZeroTooLong,
+        Ruled::IdZeroWorkShort,
         Ruled::IdZeroList,
     ];
 
@@ -66,7 +68,8 @@ impl Counted for Ruled {
             Ruled::IdZeroOfOtherType => {
                 "not set aside: unit of another type, and 0 where the id stands | as the Rust's, 2"
             }
-            Ruled::IdZeroTooLong => "not set aside: unit with id 0 and an RBSP over 65,535 bytes | refused 3",
+            Ruled::IdZeroTooLong => "not set aside: call for id 0 and an RBSP over 65,535 bytes | refused 3",
+            Ruled::IdZeroWorkShort => "not set aside: call for id 0 with a work buffer too short | refused 4",
             Ruled::IdZeroList => "set aside: list with id 0, well formed but for that | refused 31",
         }
     }

@@ -70,12 +70,20 @@ impl Judged {
         }
     }
 
-    // What a unit shows for which the Rust's answer counts, or a rule of this project that comes before the id's.
+    // What a unit shows for which the Rust's answer counts.
     fn not_set_aside(&self) -> Option<Ruled> {
         match &self.reading {
             Reading::Refused(2) if self.judges.has_id_zero() => Some(Ruled::IdZeroOfOtherType),
-            _ if self.judges.has_id_zero() && self.rbsp.len() > MOST_RBSP => Some(Ruled::IdZeroTooLong),
             _ => self.judges.extension_read().then_some(Ruled::UnitOfBoth),
+        }
+    }
+
+    // What a call shows that is refused before the id is looked at.
+    fn before_id(&self, number: u32) -> Option<Ruled> {
+        match number {
+            3 if self.judges.has_id_zero() => Some(Ruled::IdZeroTooLong),
+            4 if self.judges.has_id_zero() => Some(Ruled::IdZeroWorkShort),
+            _ => None,
         }
     }
 
@@ -151,6 +159,9 @@ impl Reader {
         let number =
             calls::parse(unit, self.work.lend(work, salt), self.record.lend(record, salt), &mut length, &mut bits);
         report.answer("vps_parse", judged.answer(left.number));
+        if let Some(what) = judged.before_id(left.number) {
+            report.ruled(what);
+        }
         let numbers = (number, length, bits) == (left.number, left.length, left.bits);
         if !numbers || !self.work.holds(left.work) || !self.record.holds(left.record) {
             report.difference(|| {

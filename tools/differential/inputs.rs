@@ -3,6 +3,7 @@
 use bitstream::h266::{write_vps, VvcVps};
 use judge::draft::{unit_of_rbsp, Draft};
 use judge::extension_rule::{write_rbsp, write_unit};
+use judge::id_rule::unit_with_id_zero;
 use judge::page::{MOST_LAYERS, MOST_SETS};
 use judge::random::Random;
 use judge::show::unit_of;
@@ -147,10 +148,19 @@ impl Inputs {
         match self.random.below(8) {
             0 => Input { unit: self.random.bytes(length), kind: "random bytes" },
             1..=3 => Input { unit: headed(&self.random.bytes(length)), kind: "random bytes behind the header" },
-            _ => Input {
-                unit: headed(&self.random.bytes_rich_in_zeros(length)),
-                kind: "zeros and few bytes behind the header",
-            },
+            _ => {
+                let mut payload = self.random.bytes_rich_in_zeros(length);
+                self.put_id(&mut payload);
+                Input { unit: headed(&payload), kind: "zeros and few bytes behind the header" }
+            }
+        }
+    }
+
+    // Any id, which mostly is above 0, so that the rest is read.
+    fn put_id(&mut self, payload: &mut [u8]) {
+        let id = self.random.below(16) as u8;
+        if let Some(first) = payload.first_mut() {
+            *first = *first & 0x0f | id << 4;
         }
     }
 
@@ -241,6 +251,15 @@ impl Inputs {
                 return Input { unit, kind };
             }
         }
+    }
+
+    // A long unit again with id 0, and now and then with two bytes more, which are too many for most.
+    pub fn with_id_zero(&mut self, long: &Input) -> Option<Input> {
+        let mut unit = unit_with_id_zero(&long.unit)?;
+        if self.random.below(2) == 0 {
+            unit.extend([0xff, 0xff]);
+        }
+        Some(Input { unit, kind: "long, with id 0" })
     }
 
     fn structure(&mut self) -> VvcVps {

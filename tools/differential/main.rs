@@ -1,7 +1,7 @@
 // The static archive against the Rust, over many units, records and byte strings: every number that a call returns or
 // stores and every lent buffer afterwards; and the sentences of the refusals that were met. What is set aside, extension
-// bits that end in 0, is held to the second judge, and so are layer pages, rates, sizes and intervals. Ends with 1 if anything
-// differs or if an answer was met too seldom.
+// bits that end in 0 and ids that are 0, is held to the second judge, and so are layer pages, rates, sizes and intervals. Ends
+// with 1 if anything differs or if an answer was met too seldom.
 mod inputs;
 
 use archive::figures::Figures;
@@ -14,6 +14,7 @@ use archive::stuffing::Stuffing;
 use archive::writing::Writer;
 use inputs::{exhaustive, Input, Inputs};
 use judge::changed_records::changed;
+use judge::id_rule::list_with_id_zero;
 use judge::random::Random;
 use judge::record::Reading;
 use judge::structures::shapes;
@@ -25,6 +26,9 @@ const UNITS: usize = 3_000_000;
 
 // One unit in so many is a long one.
 const LONG: usize = 4_000;
+
+// One record in so many comes with id 0 too.
+const ID_ZERO: usize = 16;
 
 fn main() -> ExitCode {
     let arguments: Vec<String> = std::env::args().skip(1).collect();
@@ -93,10 +97,22 @@ impl Run {
             done += 1;
         }
         while done < count {
-            let long = done % LONG == 0;
-            let input = if long { self.inputs.long() } else { self.inputs.next() };
-            self.unit(&input, long);
+            if done % LONG == 0 {
+                self.long_unit();
+            } else {
+                let input = self.inputs.next();
+                self.unit(&input, false);
+            }
             done += 1;
+        }
+    }
+
+    // And the same with id 0, which is refused with 34 unless it is too long.
+    fn long_unit(&mut self) {
+        let input = self.inputs.long();
+        self.unit(&input, true);
+        if let Some(other) = self.inputs.with_id_zero(&input) {
+            self.unit(&other, true);
         }
     }
 
@@ -114,6 +130,9 @@ impl Run {
             for _ in 0..if long { 1 } else { 2 } {
                 let other = changed(&mut self.random, &record);
                 self.list("changed record", &other, every);
+            }
+            if let Some(other) = list_with_id_zero(&record).filter(|_| self.random.below(ID_ZERO) == 0) {
+                self.list("record with id 0", &other, every);
             }
             if record.len() < 400 && self.records.len() < 4_096 {
                 self.records.push(record);

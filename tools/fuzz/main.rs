@@ -1,6 +1,6 @@
 // A coverage-guided fuzz target over the static archive, with the Rust as judge in the same process, and the second judge
-// for extension bits, layer pages, rates, sizes and intervals. An input's first byte chooses the lengths of the buffers, the
-// rest is a unit; whatever differs ends the run. What the second judge had is printed at the end, which is a failure if it
+// for extension bits, id 0, layer pages, rates, sizes and intervals. An input's first byte chooses the lengths of the buffers,
+// the rest is a unit; whatever differs ends the run. What the second judge had is printed at the end, which is a failure if it
 // was too little.
 #![no_main]
 mod traps;
@@ -13,6 +13,7 @@ use archive::sections::Sections;
 use archive::stuffing::Stuffing;
 use archive::writing::Writer;
 use judge::changed_records::changed;
+use judge::id_rule::list_with_id_zero;
 use judge::random::Random;
 use judge::record::Reading;
 use std::sync::{LazyLock, Mutex};
@@ -66,7 +67,9 @@ fn compare(seed: u64, unit: &[u8], report: &mut Report) {
     if let Reading::Accepted { record, .. } = judged.reading {
         let other = changed(&mut Random::new(seed), &record);
         let chosen = changed_by(&record, unit);
-        for list in [record, other, chosen] {
+        // now and then the record with id 0 too
+        let with_id_zero = list_with_id_zero(&record).filter(|_| seed % 8 == 0);
+        for list in [record, other, chosen].into_iter().chain(with_id_zero) {
             let vps = Writer::new(seed).compare(&list, seed == 255, report);
             Pages::new(seed).compare(&list, vps.as_ref(), report);
             Figures::new(seed).compare(&list, vps.as_ref(), report);

@@ -80,6 +80,7 @@ type Change = fn(&mut VvcVps);
 
 pub fn answers() -> String {
     let changes: Vec<(&str, VvcVps, Change)> = vec![
+        ("one layer: vps_video_parameter_set_id 0", one_layer(), |v| v.vps_video_parameter_set_id = 0),
         ("one layer: vps_ols_mode_idc 0", one_layer(), |v| v.vps_ols_mode_idc = 0),
         ("one layer: vps_sublayer_dpb_params_present_flag 1", one_layer(), |v| {
             v.vps_sublayer_dpb_params_present_flag = 1

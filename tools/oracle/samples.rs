@@ -14,6 +14,7 @@ pub fn write(folder: &str) -> std::io::Result<String> {
         ("timing.vps", unit(&with_timing())),
         ("extension.vps", unit(&with_extension(vec![1, 0, 1, 1]))),
         ("extension_zero.vps", unit(&with_extension(vec![1, 0]))),
+        ("id_zero.vps", unit(&VvcVps { vps_video_parameter_set_id: 0, ..vps_of(U) })),
         // the end of the unit is lost
         ("damaged.vps", three[..three.len() - 4].to_vec()),
     ];
