@@ -63,7 +63,7 @@ id_zero_leaves_work_as_5 {u} c = (λ N. unpacked N (omega arith), λ N. unpacked
     unpacked : {k : ℕ} → Refuses c k → work_too_short < k → Unpacked c
     unpacked {k} N l =
         let W = late_fills_work c (λ e. omega (arith, e.1, N.numbered, l)) in
-        (W.0, (W.1, refused_leaves c (λ m n e. let z : said c ≡ 0 = ap parse_number e in omega (arith, z, N.numbered, N.some))))
+        (W.0, W.1, refused_leaves c (λ m n e. let z : said c ≡ 0 = ap parse_number e in omega (arith, z, N.numbered, N.some)))
 
 -- Every other unit has the answer of before.
 pub units_with_an_id_stay : {u : List ℕ} (c : ReadCall u) → ReadRoom c → 0 < field_at (unstuff (drop 2 u)) 0 4 → (k : ℕ) → Refuses c k ↔ (read_unit_under (taking_id today) u ≡ refuses k)
