@@ -8,7 +8,7 @@ use Rattle.vps_definition.specs.Open.{opened}
 use Rattle.layer_page.specs.Page.{place, places, columns, line, set_line, set_lines, page_of}
 use Rattle.vps_page.specs.Printed.{reading_page, unit_page, printed, page_text}
 
--- the units of samples/: one layer, output layer sets by rows, and damaged
+-- the units of samples/: one layer, output layer sets by rows, damaged, and id 0
 pub one_layer : List ℕ
 one_layer = 0 ∷ 0x71 ∷ 0x10 ∷ 0 ∷ 0 ∷ 3 ∷ 2 ∷ 0x33 ∷ 0 ∷ 0 ∷ 0x40 ∷ []
 
@@ -18,6 +18,9 @@ output_rows =
 
 pub damaged : List ℕ
 damaged = 0 ∷ 0x71 ∷ 0x10 ∷ 0x80 ∷ 0 ∷ 0x48 ∷ 0x42 ∷ 0 ∷ 0 ∷ 3 ∷ 2 ∷ 0x33 ∷ 0x40 ∷ 0 ∷ 0x95 ∷ 0xc0 ∷ 0x0f ∷ 2 ∷ 0 ∷ 0x43 ∷ 0x95 ∷ 0x80 ∷ 0x1e ∷ 4 ∷ []
+
+pub id_zero : List ℕ
+id_zero = 0 ∷ 0x71 ∷ 0 ∷ 0 ∷ 3 ∷ 0 ∷ 2 ∷ 0x33 ∷ 0 ∷ 0 ∷ 0x40 ∷ []
 
 -- what stands behind the last layer's place
 abbrev blanks : ℕ → List ℕ
@@ -34,3 +37,7 @@ text_output_rows = refl
 pub text_damaged : page_text damaged ≡ bytes "refused 27\n"
 unfolding opened decimal_in bytes reading_page unit_page refused_text printed page_text damaged
 text_damaged = refl
+
+pub text_id_zero : page_text id_zero ≡ bytes "refused 34\n"
+unfolding opened decimal_in bytes reading_page unit_page refused_text printed page_text id_zero
+text_id_zero = refl

@@ -1,4 +1,4 @@
--- What vps-rates prints, computed: of the units of samples/ with timing, without, and damaged.
+-- What vps-rates prints, computed: of the units of samples/ with timing, without, damaged, and with id 0.
 use Rattle.std.specs.Prelude.{ℕ, ◌≡◌, refl, List, [], ◌∷◌, ◌++◌}
 use Rattle.texts.specs.Bytes.{bytes}
 use Rattle.text_numbers.specs.Decimal.{decimal_in}
@@ -31,3 +31,7 @@ one_layer = refl
 damaged : rates_text (0 ∷ 0x71 ∷ 0x10 ∷ 0x80 ∷ 0 ∷ 0x48 ∷ 0x42 ∷ 0 ∷ 0 ∷ 3 ∷ 2 ∷ 0x33 ∷ 0x40 ∷ 0 ∷ 0x95 ∷ 0xc0 ∷ 0x0f ∷ 2 ∷ 0 ∷ 0x43 ∷ 0x95 ∷ 0x80 ∷ 0x1e ∷ 4 ∷ []) ≡ bytes "refused 27\n"
 unfolding printed
 damaged = refl
+
+id_zero : rates_text (0 ∷ 0x71 ∷ 0 ∷ 0 ∷ 3 ∷ 0 ∷ 2 ∷ 0x33 ∷ 0 ∷ 0 ∷ 0x40 ∷ []) ≡ bytes "refused 34\n"
+unfolding printed
+id_zero = refl

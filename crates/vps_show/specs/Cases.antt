@@ -1,9 +1,9 @@
--- What vps-show prints for the unit U, byte for byte.
+-- What vps-show prints for the unit U, byte for byte, and for U with id 0.
 use Rattle.std.specs.Prelude.{ℕ, ◌≡◌, refl, List, [], ◌∷◌}
 use Rattle.vps_definition.specs.Open.{opened}
 use Rattle.vps_reader.specs.Parse.{parse_of, record_after, parse_rbsp, parse_payload, parse_unit}
 use Rattle.text_numbers.specs.Decimal.{decimal_in}
-use Rattle.vps_show.specs.Shown.{spaced, first_lines, last_lines, ok_text, record_text, shown, shown_unit, shown_input}
+use Rattle.vps_show.specs.Shown.{spaced, first_lines, last_lines, ok_text, record_text, refused_text, shown, shown_unit, shown_input}
 
 pub unit : List ℕ
 unit = 0 ∷ 0x71 ∷ 0x10 ∷ 0 ∷ 0 ∷ 3 ∷ 2 ∷ 0x33 ∷ 0 ∷ 0 ∷ 0x40 ∷ []
@@ -35,3 +35,14 @@ text =
 pub shown_u : shown_input unit ≡ text
 unfolding opened parse_of record_after parse_rbsp parse_payload parse_unit decimal_in spaced first_lines last_lines ok_text record_text shown shown_unit shown_input unit text
 shown_u = refl
+
+pub unit_id_zero : List ℕ
+unit_id_zero = 0 ∷ 0x71 ∷ 0 ∷ 0 ∷ 3 ∷ 0 ∷ 2 ∷ 0x33 ∷ 0 ∷ 0 ∷ 0x40 ∷ []
+
+-- refused 34
+pub text_id_zero : List ℕ
+text_id_zero = 114 ∷ 101 ∷ 102 ∷ 117 ∷ 115 ∷ 101 ∷ 100 ∷ 32 ∷ 51 ∷ 52 ∷ 10 ∷ []
+
+pub shown_id_zero : shown_input unit_id_zero ≡ text_id_zero
+unfolding opened parse_of record_after parse_rbsp parse_payload parse_unit decimal_in refused_text shown shown_unit shown_input unit_id_zero text_id_zero
+shown_id_zero = refl
