@@ -438,50 +438,54 @@ pub fn lines(seed: u64, count: usize, longest: usize) -> String {
     text
 }
 
-// How many units each refusal, each shape and each kind has, and how many are set aside.
-pub fn summary(seed: u64, count: usize, longest: usize) -> String {
-    let mut units = Units::new(seed, longest);
-    let mut refused: BTreeMap<u32, usize> = numbers().map(|number| (number, 0)).collect();
-    let mut shown: BTreeMap<&str, usize> = BTreeMap::new();
-    let mut kinds: BTreeMap<&str, (usize, usize)> = BTreeMap::new();
-    let mut accepted = 0;
-    let mut set_aside: BTreeMap<(Rule, bool), usize> = BTreeMap::new();
-    for _ in 0..count {
-        let unit = units.next();
-        let kind = kinds.entry(unit.kind).or_default();
-        kind.0 += 1;
+// What a summary counts.
+#[derive(Default)]
+struct Counts {
+    accepted: usize,
+    refused: BTreeMap<u32, usize>,
+    shown: BTreeMap<&'static str, usize>,
+    // of a kind all and the accepted
+    kinds: BTreeMap<&'static str, (usize, usize)>,
+    set_aside: BTreeMap<(Rule, bool), usize>,
+}
+
+impl Counts {
+    fn add(&mut self, unit: &Unit) {
         let judges = Judges::of(&unit.bytes);
         assert!(judges.as_claimed(), "the judges differ only as they may: {}", hex_of(&unit.bytes));
         if let Some(rule) = judges.set_aside() {
-            *set_aside.entry((rule, judges.found().is_ok())).or_default() += 1;
+            *self.set_aside.entry((rule, judges.found().is_ok())).or_default() += 1;
         }
+        let kind = self.kinds.entry(unit.kind).or_default();
+        kind.0 += 1;
         match judges.found() {
             Ok((v, _)) => {
-                accepted += 1;
+                self.accepted += 1;
                 kind.1 += 1;
                 for name in shapes(v, &record_of(v)) {
-                    *shown.entry(name).or_default() += 1;
+                    *self.shown.entry(name).or_default() += 1;
                 }
             }
-            Err(number) => *refused.entry(*number).or_default() += 1,
+            Err(number) => *self.refused.entry(*number).or_default() += 1,
         }
     }
-    let mut text = format!("units {count}, accepted {accepted}\n");
-    for ((rule, accepted), count) in set_aside {
-        text.push_str(&format!(
-            "set aside, {}: {} {count}\n",
-            rule.name(),
-            ["refused", "accepted"][usize::from(accepted)]
-        ));
+
+    fn text(&self) -> String {
+        let words = |accepted: bool| if accepted { "accepted" } else { "refused" };
+        let set_aside = self.set_aside.iter();
+        let lines =
+            set_aside.map(|((rule, accepted), n)| format!("set aside, {}: {} {n}\n", rule.name(), words(*accepted)));
+        let lines = lines.chain(self.refused.iter().map(|(number, n)| format!("refused {number}: {n}\n")));
+        let lines = lines.chain(self.shown.iter().map(|(name, n)| format!("{name}: {n}\n")));
+        let kinds = self.kinds.iter();
+        lines.chain(kinds.map(|(name, (n, good))| format!("made as `{name}`: {n}, accepted {good}\n"))).collect()
     }
-    for (number, count) in refused {
-        text.push_str(&format!("refused {number}: {count}\n"));
-    }
-    for (name, count) in shown {
-        text.push_str(&format!("{name}: {count}\n"));
-    }
-    for (name, (count, accepted)) in kinds {
-        text.push_str(&format!("made as `{name}`: {count}, accepted {accepted}\n"));
-    }
-    text
+}
+
+// How many units each refusal, each shape and each kind has, and how many are set aside.
+pub fn summary(seed: u64, count: usize, longest: usize) -> String {
+    let mut units = Units::new(seed, longest);
+    let mut counts = Counts { refused: numbers().map(|number| (number, 0)).collect(), ..Default::default() };
+    (0..count).for_each(|_| counts.add(&units.next()));
+    format!("units {count}, accepted {}\n{}", counts.accepted, counts.text())
 }
