@@ -1,7 +1,6 @@
 -- 0 is the number of success and of nothing else, 30 that of a record that is too short and of nothing else, and every number but 0
 -- has a sentence.
 use Rattle.std.specs.Prelude.{ℕ, ◌/◌, ◌≤◌, ◌<◌, ◌≡◌, refl, List, [], ◌∷◌, Bool, true, false, cond, ◌↔◌, ◌⊎◌, leb, eqb, length, Option, Some, None}
-use Rattle.std.proofs.lemmas.Bool.{false≢true}
 use Rattle.std.proofs.Common.{inl, inr, arith, leb-true}
 use Rattle.refusals.specs.Answer.{Answer}
 use Rattle.refusals.specs.Answer.Answer.{success, refusal}
@@ -48,6 +47,7 @@ first_other = others unit_too_short work_too_short (omega arith) (omega arith)
 
 -- and of the table and of its rules
 table_other : TableSaid Other today
+unfolding last_number table
 table_other = record { table = others sublayers_reserved timing_index (omega arith) (omega arith); id = λ e. record { is = record { worded = record { first = omega arith; last = omega arith }; long = λ q. omega (arith, q) } } }
 
 abbrev ParseOther : Parse → Type 0
