@@ -18,7 +18,7 @@ pub struct Parsed {
 ///
 /// On success the record stands at the beginning of `record`, and the RBSP (the unit behind its 2-byte header with stuffing removed)
 /// at the beginning of `work`; what is behind each is as before. Refusals 1 to 4 leave both as they were. Every other refusal leaves
-/// `record` as it was and the RBSP at the beginning of `work`. Refusals 1 to 30 can come out.
+/// `record` as it was and the RBSP at the beginning of `work`. Refusals 1 to 30 and 34 can come out.
 ///
 /// ```
 /// use teglyovash::{parse, Refusal};
@@ -40,7 +40,11 @@ pub struct Parsed {
 ///
 /// assert_eq!(parse(&unit, &mut [], &mut record), Err(Refusal::WorkTooShort));
 /// assert_eq!(parse(&unit[..1], &mut work, &mut record), Err(Refusal::UnitTooShort));
-/// assert_eq!(parse(&unit[..2], &mut work, &mut record), Err(Refusal::StopBitMissing));
+/// assert_eq!(parse(&unit[..3], &mut work, &mut record), Err(Refusal::StopBitMissing));
+///
+/// // a set id of 0; past the unit's end bits read 0
+/// assert_eq!(parse(&[0x00, 0x71, 0x0f], &mut work, &mut record), Err(Refusal::IdZero));
+/// assert_eq!(parse(&unit[..2], &mut work, &mut record), Err(Refusal::IdZero));
 /// ```
 pub fn parse(unit: &[u8], work: &mut [u8], record: &mut [u32]) -> Result<Parsed, Refusal> {
     let said = archive::parse(unit, work, record);
@@ -71,8 +75,8 @@ pub fn parse(unit: &[u8], work: &mut [u8], record: &mut [u32]) -> Result<Parsed,
 /// assert_eq!(write(&record, &mut short), Err(Refusal::OutputTooShort));
 /// assert_eq!(short, [0xff; 10]);
 ///
-/// // max_sublayers_minus1 is never 7
-/// record[2] = 7;
+/// // the set id is never 0
+/// record[1] = 0;
 /// assert_eq!(write(&record, &mut output), Err(Refusal::NotWellFormed));
 /// # Ok::<(), Refusal>(())
 /// ```
@@ -82,7 +86,8 @@ pub fn write(record: &[u32], output: &mut [u8]) -> Result<usize, Refusal> {
 
 /// A section of a record: a part of `record` itself.
 ///
-/// Of a record that is not well formed, and of a number over 8, it is the empty part at the record's end.
+/// Of a record that is not well formed, one with set id 0 among them, and of a number over 8, it is the empty part at the record's
+/// end.
 ///
 /// ```
 /// use teglyovash::{parse, section, Section};
@@ -94,6 +99,10 @@ pub fn write(record: &[u32], output: &mut [u8]) -> Result<usize, Refusal> {
 /// assert_eq!(section(&record, Section::Trailer), [9, 12, 13, 24, 26, 28, 29, 38]);
 /// assert_eq!(section(&record, 9u32), []);
 /// assert_eq!(section(&record[1..], Section::Layers), []);
+///
+/// // the set id is never 0
+/// record[1] = 0;
+/// assert_eq!(section(&record, Section::Layers), []);
 /// # Ok::<(), teglyovash::Refusal>(())
 /// ```
 pub fn section(record: &[u32], number: impl Into<u32>) -> &[u32] {

@@ -27,6 +27,8 @@ mod calls;
 mod declared;
 #[cfg(test)]
 mod figure_tests;
+#[cfg(test)]
+mod id_tests;
 mod kind;
 #[cfg(test)]
 mod page_tests;

@@ -88,10 +88,12 @@ pub enum Refusal {
     OutputTooShort,
     /// 33, rates, buffer sizes, picture intervals: no timing section, or no such entry, sublayer or schedule in it.
     ItemMissing,
+    /// 34, layers: vps_video_parameter_set_id 0, directly before 5.
+    IdZero,
 }
 
 impl Refusal {
-    /// The refusal's number, 1 to 33.
+    /// The refusal's number, 1 to 34.
     pub fn number(self) -> u32 {
         match self {
             Refusal::UnitTooShort => 1,
@@ -127,6 +129,7 @@ impl Refusal {
             Refusal::NotWellFormed => 31,
             Refusal::OutputTooShort => 32,
             Refusal::ItemMissing => 33,
+            Refusal::IdZero => 34,
         }
     }
 
@@ -166,6 +169,7 @@ impl Refusal {
             31 => Refusal::NotWellFormed,
             32 => Refusal::OutputTooShort,
             33 => Refusal::ItemMissing,
+            34 => Refusal::IdZero,
             _ => unreachable!("no function gives {number}"),
         }
     }
@@ -206,7 +210,7 @@ mod tests {
 
     /// Every refusal, in order of its number.
     fn all() -> Vec<Refusal> {
-        (1..=33).map(|number| Refusal::of(number, 0)).collect()
+        (1..=34).map(|number| Refusal::of(number, 0)).collect()
     }
 
     #[test]
@@ -232,6 +236,7 @@ mod tests {
         assert_eq!(Refusal::ScheduleCount.to_string(), "timing schedule-count over-31");
         assert_eq!(Refusal::RecordTooShort { needed: 38 }.to_string(), "record buffer too-short");
         assert_eq!(Refusal::ItemMissing.to_string(), "rates item missing");
+        assert_eq!(Refusal::IdZero.to_string(), "layers set-id zero");
     }
 
     #[test]
