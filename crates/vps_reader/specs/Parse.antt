@@ -44,7 +44,7 @@ pub record Parsed : Type 0 where
 abbrev pub untouched : (number : ℕ) → (work lent : List ℕ) → Parsed
 untouched n work lent = record { answer = refused n; work = work; vps_record = lent }
 
--- from check 5 on the work buffer begins with the RBSP
+-- behind check 4 the work buffer begins with the RBSP
 unfoldable pub parse_rbsp : (rbsp work lent : List ℕ) → Parsed
 parse_rbsp s work lent = record { answer = parse_of lent (read_rbsp s); work = overlaid s work; vps_record = record_after lent (read_rbsp s) }
 
