@@ -1,6 +1,6 @@
 -- What each change of a rule changed: for every unit, the answer beside the answer of before, whichever other rules are in force.
-use Rattle.std.specs.Prelude.{ℕ, zero, suc, ◌+◌, ◌/◌, ◌≤◌, ◌<◌, ◌≡◌, refl, List, [], ◌∷◌, ◌++◌, Bool, true, false, ◌↔◌, length, get_or, drop}
-use Rattle.std.proofs.Common.{sym, ap, ◌∙◌, subst, arith}
+use Rattle.std.specs.Prelude.{ℕ, ◌+◌, ◌/◌, ◌≤◌, ◌<◌, ◌≡◌, refl, List, [], ◌∷◌, ◌++◌, true, ◌↔◌, length, get_or, drop}
+use Rattle.std.proofs.Common.{sym, ◌∙◌, subst, arith}
 use Rattle.std.proofs.lemmas.List.Edits.{sets}
 use Rattle.refusals.specs.Answer.Answer.{refusal}
 use Rattle.refusals.specs.Number.{stop_bit_zero, not_well_formed, id_zero}
@@ -17,14 +17,12 @@ use Rattle.vps_laws.specs.LongerExtension.{unit_with_shorter_extension, Longer}
 use Rattle.vps_laws.proofs.LongerExtension.{answer_longer}
 use Rattle.vps_laws.specs.LongerExtension.Longer.{as_before, ends_in_zero}
 use Rattle.vps_laws.proofs.AnyExtension.{others_well_formed}
-use Rattle.vps_laws.proofs.Units.{written_read}
-use Rattle.vps_laws.specs.Claims.{accepted_reads, refused_ill_formed, well_formed_written}
 use Rattle.vps_laws.specs.Records.{ill_formed_refused}
 use Rattle.vps_laws.specs.Lookup.{Found}
 use Rattle.vps_laws.proofs.Lookup.{found_ill_formed}
 use Rattle.vps_laws.specs.Order.{header_first}
 use Rattle.vps_laws.specs.Says.{ReadingSays}
-use Rattle.vps_laws.proofs.IdRule.{IdMoved, id_moved, rbsp_refuses, record_same, accepted_id, Another, unit_other}
+use Rattle.vps_laws.proofs.IdRule.{IdMoved, id_moved, rbsp_refuses, record_same, Another, unit_other, accepted_was, accepted_is, some_id, ill_formed_of_zero}
 use Rattle.vps_laws.proofs.IdRule.IdMoved.{id_same, id_refused}
 
 -- ── Extension bits run up to the last one-bit ─────────────────────────
@@ -61,10 +59,6 @@ pub any_extension_bits : (rules : Rules) (r e : List ℕ) → well_formed_under 
 any_extension_bits = others_well_formed
 
 -- ── Id 0 is refused ───────────────────────────────────────────────────
-positive : (n : ℕ) → (n ≡ 0 → ⊥) → 0 < n
-positive zero h = absurd (h refl)
-positive (suc n) h = omega arith
-
 -- Where the answer is another, it is 34, and the id's four bits are 0.
 pub id_rule_changes_only : (rules : Rules) (u : List ℕ) → (read_unit_under (refusing_id rules) u ≡ read_unit_under (taking_id rules) u → ⊥)
     → (read_unit_under (refusing_id rules) u ≡ refuses id_zero) × (field_at (unstuff (drop 2 u)) 0 4 ≡ 0)
@@ -94,35 +88,14 @@ units_with_an_id_stay rules u l = go (id_moved rules u)
 -- So a unit is accepted exactly if it was before with an id above 0, with the same record and bits used.
 pub accepted_with_an_id : (rules : Rules) (u r : List ℕ) (n : ℕ)
     → (read_unit_under (refusing_id rules) u ≡ accepts r n) ↔ ((read_unit_under (taking_id rules) u ≡ accepts r n) × (0 < get_or r 1 0))
-accepted_with_an_id rules u r n = (
-  (λ e. there (id_moved rules u) e (λ z. with_id_zero e z)),
-  (λ e. back (id_moved rules u) e.0 e.1 (accepted_id (taking_id rules) u r n e.0)),
-)
-  where
-    with_id_zero : read_unit_under (refusing_id rules) u ≡ accepts r n → get_or r 1 0 ≡ 0 → ⊥
-    with_id_zero e z =
-        not_accepts (sym (rbsp_refuses rules (unstuff (drop 2 u)) (sym (accepted_id (refusing_id rules) u r n e) ∙ z)) ∙ accepted_reads (refusing_id rules) u r n e)
-
-    there : {R S : Reading} → IdMoved (unstuff (drop 2 u)) R S → R ≡ accepts r n → (get_or r 1 0 ≡ 0 → ⊥) → (S ≡ accepts r n) × (0 < get_or r 1 0)
-    there id_same e h = (e, positive (get_or r 1 0) h)
-    there (id_refused z) e h = not_accepts e
-
-    back : {R S : Reading} → IdMoved (unstuff (drop 2 u)) R S → S ≡ accepts r n → 0 < get_or r 1 0 → get_or r 1 0 ≡ field_at (unstuff (drop 2 u)) 0 4 → R ≡ accepts r n
-    back id_same e l i = e
-    back (id_refused z) e l i = absurd (omega (arith, z, l, i))
+accepted_with_an_id rules u r n = (accepted_was rules u r n, accepted_is rules u r n)
 
 -- A well-formed record has an id above 0; one with id 0 is not well formed, and the writer refuses it with 31.
 pub well_formed_has_an_id : (rules : Rules) (r : List ℕ) → well_formed_under (refusing_id rules) r ≡ true → 0 < get_or r 1 0
-well_formed_has_an_id rules r h =
-    let W = well_formed_written (refusing_id rules) r h in
-    ((accepted_with_an_id rules W.0 r _).0 (written_read (refusing_id rules) r W.0 W.1)).1
+well_formed_has_an_id = some_id
 
 pub id_zero_is_not_written : (rules : Rules) (r : List ℕ) → get_or r 1 0 ≡ 0 → write_record_under (refusing_id rules) r ≡ refusal not_well_formed
-id_zero_is_not_written rules r z = ill_formed_refused (refusing_id rules) r (go (well_formed_under (refusing_id rules) r) refl)
-  where
-    go : (b : Bool) → well_formed_under (refusing_id rules) r ≡ b → b ≡ false
-    go true e = absurd (omega (arith, z, well_formed_has_an_id rules r e))
-    go false e = refl
+id_zero_is_not_written rules r z = ill_formed_refused (refusing_id rules) r (ill_formed_of_zero rules r z)
 
 -- Every other record is written as before: to the same bytes, or refused.
 pub records_with_an_id_stay : (rules : Rules) (r : List ℕ) → 0 < get_or r 1 0 → write_record_under (refusing_id rules) r ≡ write_record_under (taking_id rules) r
@@ -130,4 +103,4 @@ records_with_an_id_stay = record_same
 
 -- Lookup gives the empty part at the end of a record with id 0.
 pub id_zero_has_no_section : (r : List ℕ) (k : ℕ) → get_or r 1 0 ≡ 0 → Found r k (length r) (length r)
-id_zero_has_no_section r k z = found_ill_formed r k (refused_ill_formed today r (id_zero_is_not_written today r z))
+id_zero_has_no_section r k z = found_ill_formed r k (ill_formed_of_zero today r z)

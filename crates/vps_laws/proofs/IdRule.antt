@@ -1,5 +1,5 @@
 -- Id 0: the answer where it is refused beside that of the same rules where it is taken.
-use Rattle.std.specs.Prelude.{ℕ, ◌+◌, ◌^◌, ◌<◌, ◌≤◌, ◌≡◌, refl, List, [], Bool, true, false, ltb, leb, get_or, drop}
+use Rattle.std.specs.Prelude.{ℕ, zero, suc, ◌+◌, ◌^◌, ◌<◌, ◌≤◌, ◌≡◌, refl, List, [], Bool, true, false, ltb, leb, get_or, drop}
 use Rattle.std.proofs.Common.{sym, ap, ◌∙◌, arith, leb-true, ltb-true, ltb-false, lt-ltb}
 use Rattle.std.proofs.Math.Path.{subst⁻¹}
 use Rattle.std.proofs.lemmas.Bool.{le-ltb}
@@ -16,11 +16,14 @@ use Rattle.vps_definition.specs.Views.{header_of}
 use Rattle.vps_definition.specs.Vps.{Header, header_under, vps_under}
 use Rattle.vps_definition.specs.Reading.{Reading, closed, read_rbsp_under, read_unit_under}
 use Rattle.vps_definition.specs.Reading.Reading.{accepts, refuses}
-use Rattle.vps_definition.specs.Writing.{finished, write_record_under}
+use Rattle.vps_definition.specs.Writing.{finished, write_record_under, well_formed_under}
 use Rattle.vps_laws.specs.Bind.{then_read, then_write, emit_bind}
 use Rattle.vps_laws.proofs.Bind.{run_bind, run_bound}
 use Rattle.vps_laws.specs.Keeps.{Returns, keeps_done}
 use Rattle.vps_laws.proofs.Keeps.{returns_bind}
+use Rattle.vps_laws.specs.Units.{not_accepts}
+use Rattle.vps_laws.proofs.Units.{written_read}
+use Rattle.vps_laws.specs.Claims.{accepted_reads, well_formed_written}
 use Rattle.vps_laws.specs.Order.{table_before_end}
 use Rattle.vps_laws.proofs.Order.{first_refusal}
 use Rattle.vps_laws.specs.Says.{Among, TableSaid, ReadingSays, unit_says}
@@ -132,3 +135,36 @@ pub unit_other : (rules : Rules) (u : List ℕ) → ReadingSays Another (read_un
 unit_other rules =
     unit_says Another (read_rbsp_under (taking_id rules)) (others unit_too_short rbsp_too_long (omega arith))
     (rbsp_says (taking_id rules) (taking_others rules) (others stop_bit_missing alignment_bit_one (omega arith)))
+
+-- ── What is accepted and well formed ──────────────────────────────────
+positive : (n : ℕ) → (n ≡ 0 → ⊥) → 0 < n
+positive zero h = absurd (h refl)
+positive (suc n) h = omega arith
+
+pub accepted_was : (rules : Rules) (u r : List ℕ) (n : ℕ) → read_unit_under (refusing_id rules) u ≡ accepts r n → (read_unit_under (taking_id rules) u ≡ accepts r n) × (0 < get_or r 1 0)
+accepted_was rules u r n e = go (id_moved rules u) e
+  where
+    -- with id 0 the RBSP is refused
+    no_zero : get_or r 1 0 ≡ 0 → ⊥
+    no_zero z = not_accepts (sym (rbsp_refuses rules (unstuff (drop 2 u)) (sym (accepted_id (refusing_id rules) u r n e) ∙ z)) ∙ accepted_reads (refusing_id rules) u r n e)
+
+    go : {R S : Reading} → IdMoved (unstuff (drop 2 u)) R S → R ≡ accepts r n → (S ≡ accepts r n) × (0 < get_or r 1 0)
+    go id_same f = (f, positive (get_or r 1 0) no_zero)
+    go (id_refused z) f = not_accepts f
+
+pub accepted_is : (rules : Rules) (u r : List ℕ) (n : ℕ) → (read_unit_under (taking_id rules) u ≡ accepts r n) × (0 < get_or r 1 0) → read_unit_under (refusing_id rules) u ≡ accepts r n
+accepted_is rules u r n e = go (id_moved rules u) e.0
+  where
+    go : {R S : Reading} → IdMoved (unstuff (drop 2 u)) R S → S ≡ accepts r n → R ≡ accepts r n
+    go id_same f = f
+    go (id_refused z) f = absurd (omega (arith, z, e.1, accepted_id (taking_id rules) u r n e.0))
+
+pub some_id : (rules : Rules) (r : List ℕ) → well_formed_under (refusing_id rules) r ≡ true → 0 < get_or r 1 0
+some_id rules r h = let W = well_formed_written (refusing_id rules) r h in (accepted_was rules W.0 r _ (written_read (refusing_id rules) r W.0 W.1)).1
+
+pub ill_formed_of_zero : (rules : Rules) (r : List ℕ) → get_or r 1 0 ≡ 0 → well_formed_under (refusing_id rules) r ≡ false
+ill_formed_of_zero rules r z = go (well_formed_under (refusing_id rules) r) refl
+  where
+    go : (b : Bool) → well_formed_under (refusing_id rules) r ≡ b → b ≡ false
+    go true e = absurd (omega (arith, z, some_id rules r e))
+    go false e = refl
