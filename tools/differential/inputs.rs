@@ -3,7 +3,6 @@
 use bitstream::h266::{write_vps, VvcVps};
 use judge::draft::{unit_of_rbsp, Draft};
 use judge::extension_rule::{write_rbsp, write_unit};
-use judge::id_rule::unit_with_id_zero;
 use judge::page::{MOST_LAYERS, MOST_SETS};
 use judge::random::Random;
 use judge::show::unit_of;
@@ -253,13 +252,12 @@ impl Inputs {
         }
     }
 
-    // A long unit again with id 0, and now and then with two bytes more, which are too many for most.
-    pub fn with_id_zero(&mut self, long: &Input) -> Option<Input> {
-        let mut unit = unit_with_id_zero(&long.unit)?;
-        if self.random.below(2) == 0 {
-            unit.extend([0xff, 0xff]);
-        }
-        Some(Input { unit, kind: "long, with id 0" })
+    // A short unit with id 0, followed by bytes up to about the greatest length: over it 3 comes before 34.
+    pub fn long_with_id_zero(&mut self) -> Input {
+        self.longs += 1;
+        let v = VvcVps { vps_video_parameter_set_id: 0, ..self.small.structure(MODES[self.longs % MODES.len()]) };
+        let length = [65_534, 65_535, 65_536, 65_537, 65_600][self.random.below(5)];
+        Input { unit: self.followed(v, length).expect("a small structure is short"), kind: "long, with id 0" }
     }
 
     fn structure(&mut self) -> VvcVps {

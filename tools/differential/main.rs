@@ -107,12 +107,9 @@ impl Run {
         }
     }
 
-    // And the same with id 0, which is refused with 34 unless it is too long.
     fn long_unit(&mut self) {
-        let input = self.inputs.long();
-        self.unit(&input, true);
-        if let Some(other) = self.inputs.with_id_zero(&input) {
-            self.unit(&other, true);
+        for input in [self.inputs.long(), self.inputs.long_with_id_zero()] {
+            self.unit(&input, true);
         }
     }
 
