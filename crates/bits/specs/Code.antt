@@ -1,7 +1,7 @@
--- Codes: ue(v) of H.266 clause 9.2, with the reader's behaviour past the end.
-use Rattle.std.specs.Prelude.{ℕ, zero, suc, ◌+◌, ◌*◌, ◌-◌, ◌^◌, List, [], ◌∷◌, ◌++◌, cond, ◌&&◌, ltb, eqb, length, replicate}
+-- Codes: ue(v) of H.266 clause 9.2; a code that the end of the bytes cuts is refused.
+use Rattle.std.specs.Prelude.{ℕ, zero, suc, ◌+◌, ◌*◌, ◌-◌, ◌^◌, List, [], ◌∷◌, ◌++◌, cond, ◌&&◌, ltb, leb, eqb, length, replicate}
 use Rattle.std.specs.Int.Count.{count_leading_zeros}
-use Rattle.refusals.specs.Number.{code_too_long}
+use Rattle.refusals.specs.Number.{code_too_long, code_past_end}
 use Rattle.bits.specs.Bits.{bit_at, field_at, bits_of}
 
 -- what a reading step gives: a value and the place behind it, or a refusal's number
@@ -14,12 +14,12 @@ unfoldable pub zeros_at : List ℕ → ℕ → ℕ → ℕ
 zeros_at s at zero = 0
 zeros_at s at (suc n) = cond (ltb at (8 * length s) && eqb (bit_at s at) 0) (suc (zeros_at s (at + 1) n)) 0
 
--- behind k zeros: a one and k bits of suffix; or the end of the bytes, where the suffix counts as 0 and the place still moves k on
+-- behind k zeros: a one and k bits of suffix, the last of them among the bytes
 unfoldable pub code_behind : List ℕ → ℕ → ℕ → Taken
 code_behind s at k =
-    cond (ltb (at + k) (8 * length s))
+    cond (leb (at + k + 1 + k) (8 * length s))
     (taken (2 ^ k - 1 + field_at s (at + k + 1) k) (at + k + 1 + k))
-    (taken (2 ^ k - 1) (at + k + k))
+    (refused code_past_end)
 
 -- the code at a place; 32 zeros are none
 unfoldable pub code_at : List ℕ → ℕ → Taken

@@ -1,13 +1,13 @@
 -- Laws of codes: which bits they are, and what they read as.
-use Rattle.std.specs.Prelude.{ℕ, zero, suc, ◌+◌, ◌*◌, ◌-◌, ◌/◌, ◌^◌, ◌≤◌, ◌<◌, ◌≡◌, refl, List, [], ◌∷◌, ◌++◌, Bool, true, false, cond, ◌&&◌, ltb, eqb, length, replicate}
-use Rattle.std.proofs.Common.{sym, ap, ◌∙◌, append_assoc, add-zero, arith, lit<, length-append, pow_mono, ltb-true, ltb-false, eqb-true, lt-ltb, le-ltb, eq-eqb, ne_eqb}
+use Rattle.std.specs.Prelude.{ℕ, zero, suc, ◌+◌, ◌*◌, ◌-◌, ◌/◌, ◌^◌, ◌≤◌, ◌<◌, ◌≡◌, refl, List, [], ◌∷◌, ◌++◌, Bool, true, false, cond, ◌&&◌, ltb, leb, eqb, length, replicate}
+use Rattle.std.proofs.Common.{sym, ap, ◌∙◌, append_assoc, add-zero, arith, lit<, length-append, pow_mono, ltb-true, ltb-false, leb-true, eqb-true, lt-ltb, le-ltb, le-leb, eq-eqb, ne_eqb}
 use Rattle.std.proofs.Math.Nat.{two-pow-succ, one-le-pow, div-eq_of_lt}
 use Rattle.std.specs.Int.Count.{count_leading_zeros}
 use Rattle.std.proofs.lemmas.Nat.{leading_top}
 use Rattle.std.proofs.lemmas.List.{length-replicate}
 use Rattle.std.proofs.Math.Pow.{high}
 use Rattle.std.proofs.lemmas.Bool.{eqb-false}
-use Rattle.refusals.specs.Number.{code_too_long}
+use Rattle.refusals.specs.Number.{code_too_long, code_past_end}
 use Rattle.bits.specs.Bits.{bit_at, field_at, bits_of}
 use Rattle.bits.specs.Code.{zeros_at, code_behind, code_at, prefix_length, code_of}
 use Rattle.bits.specs.Code.Taken.{taken, refused}
@@ -138,10 +138,10 @@ code_is_field v h =
     one_field k (v + 1 - 2 ^ k) (omega (arith, two-pow-succ k)) ∙ ap (bits_of (2 * k + 1)) g
 
 -- ── Reading a code ────────────────────────────────────────────────────
--- k zeros and a one that stand among the bytes
-pub code_at_lem : (s : List ℕ) (at k : ℕ) → k < 32 → at + k < 8 * length s → BitsAt s at (replicate k 0 ++ (1 ∷ [])) → code_at s at ≡ taken (2 ^ k - 1 + field_at s (at + k + 1) k) (at + k + 1 + k)
+-- k zeros and a one, with k bits behind them, that stand among the bytes
+pub code_at_lem : (s : List ℕ) (at k : ℕ) → k < 32 → at + k + 1 + k ≤ 8 * length s → BitsAt s at (replicate k 0 ++ (1 ∷ [])) → code_at s at ≡ taken (2 ^ k - 1 + field_at s (at + k + 1) k) (at + k + 1 + k)
 unfolding code_at code_behind
-code_at_lem s at k f g h = rw (zeros_found s at 32 k f g h, lt-ltb k 32 f, lt-ltb (at + k) (8 * length s) g) refl
+code_at_lem s at k f g h = rw (zeros_found s at 32 k f (omega arith) h, lt-ltb k 32 f, le-leb (at + k + 1 + k) (8 * length s) g) refl
 
 -- the code of v reads as v
 pub code_bits : (s : List ℕ) (at v : ℕ) → v < 4294967295 → at + length (code_of v) ≤ 8 * length s → BitsAt s at (code_of v) → code_at s at ≡ taken v (at + length (code_of v))
@@ -168,14 +168,15 @@ code_of_lem k f h l =
     let g : 2 ^ k - 1 + f + 1 - 2 ^ k ≡ f = omega arith in
     rw (prefix_is (2 ^ k - 1 + f) k p, g) refl
 
--- a code that ends before the bytes do is whole: its bits stand there, and it is the code of its number
+-- a code that is taken is whole: its bits stand among the bytes, and it is the code of its number
 pub record Whole (s : List ℕ) (at v next : ℕ) : Type 0 where
+  pub inside : next ≤ 8 * length s
   pub small : v < 4294967295
   pub behind : next ≡ at + length (code_of v)
   pub stands : BitsAt s at (code_of v)
 
-whole : (s : List ℕ) (at k : ℕ) → k < 32 → BitsAt s at (replicate k 0) → bit_at s (at + k) ≡ 1 → Whole s at (2 ^ k - 1 + field_at s (at + k + 1) k) (at + k + 1 + k)
-whole s at k f z o =
+whole : (s : List ℕ) (at k : ℕ) → k < 32 → at + k + 1 + k ≤ 8 * length s → BitsAt s at (replicate k 0) → bit_at s (at + k) ≡ 1 → Whole s at (2 ^ k - 1 + field_at s (at + k + 1) k) (at + k + 1 + k)
+whole s at k f i z o =
     let l = field_lt s (at + k + 1) k in
     let w : 2 ^ suc k ≤ 2 ^ 32 = pow_mono f in
     let x : ℕ = field_at s (at + k + 1) k in
@@ -185,23 +186,22 @@ whole s at k f z o =
     let a : BitsAt s at (replicate k 0 ++ (1 ∷ [])) = bits_join s at (replicate k 0) (1 ∷ []) z (rw length-replicate (o, tt)) in
     let b : BitsAt s at (replicate k 0 ++ (1 ∷ []) ++ bits_of k x) = bits_join s at (replicate k 0 ++ (1 ∷ [])) (bits_of k x) a (rw (n, m) (bits_field s (at + k + 1) k)) in
     let y : length {A = ℕ} (replicate k 0 ++ (1 ∷ []) ++ bits_of k x) ≡ k + 1 + k = simp (length-append, length-replicate, bits_length) refl in
-    record { small = omega (arith, two-pow-succ k); behind = rw c (omega arith); stands = rw c b }
+    record { inside = i; small = omega (arith, two-pow-succ k); behind = rw c (omega arith); stands = rw c b }
 
-pub code_whole : (s : List ℕ) (at v next : ℕ) → code_at s at ≡ taken v next → next < 8 * length s → Whole s at v next
+pub code_whole : (s : List ℕ) (at v next : ℕ) → code_at s at ≡ taken v next → Whole s at v next
 unfolding code_at code_behind
-code_whole s at v next e l = go (zeros_at s at 32) (zeros_stand s at 32) (zeros_one s at 32) (ltb (zeros_at s at 32) 32) refl (ltb (at + zeros_at s at 32) (8 * length s)) refl e
+code_whole s at v next e = go (zeros_at s at 32) (zeros_stand s at 32) (zeros_one s at 32) (ltb (zeros_at s at 32) 32) refl (leb (at + zeros_at s at 32 + 1 + zeros_at s at 32) (8 * length s)) refl e
   where
     go : (k : ℕ) → BitsAt s at (replicate k 0) → (k < 32 → at + k < 8 * length s → bit_at s (at + k) ≡ 1)
-        → (a : Bool) → ltb k 32 ≡ a → (b : Bool) → ltb (at + k) (8 * length s) ≡ b
-        → cond a (cond b (taken (2 ^ k - 1 + field_at s (at + k + 1) k) (at + k + 1 + k)) (taken (2 ^ k - 1) (at + k + k))) (refused code_too_long) ≡ taken v next
+        → (a : Bool) → ltb k 32 ≡ a → (b : Bool) → leb (at + k + 1 + k) (8 * length s) ≡ b
+        → cond a (cond b (taken (2 ^ k - 1 + field_at s (at + k + 1) k) (at + k + 1 + k)) (refused code_past_end)) (refused code_too_long) ≡ taken v next
         → Whole s at v next
     go k z o true f true g h =
+        let i = leb-true (at + k + 1 + k) (8 * length s) g in
         let x : 2 ^ k - 1 + field_at s (at + k + 1) k ≡ v = cc in
         let y : at + k + 1 + k ≡ next = cc in
-        rw (← x, ← y) (whole s at k (ltb-true k 32 f) z (o (ltb-true k 32 f) (ltb-true (at + k) (8 * length s) g)))
-    go k z o true f false g h =
-        let y : at + k + k ≡ next = cc in
-        absurd (omega (arith, ltb-false (at + k) (8 * length s) g))
+        rw (← x, ← y) (whole s at k (ltb-true k 32 f) i z (o (ltb-true k 32 f) (omega arith)))
+    go k z o true f false g h = absurd (let n : ◌≡◌ {A = ℕ} 0 1 = cc in omega arith)
     go k z o false f b g h = absurd (let n : ◌≡◌ {A = ℕ} 0 1 = cc in omega arith)
 
 -- how far a code goes: the place never falls, and moves by at most 63
@@ -211,14 +211,14 @@ pub record Near (at next : ℕ) : Type 0 where
 
 pub code_near : (s : List ℕ) (at v next : ℕ) → code_at s at ≡ taken v next → Near at next
 unfolding code_at code_behind
-code_near s at v next e = go (ltb (zeros_at s at 32) 32) refl (ltb (at + zeros_at s at 32) (8 * length s)) e
+code_near s at v next e = go (ltb (zeros_at s at 32) 32) refl (leb (at + zeros_at s at 32 + 1 + zeros_at s at 32) (8 * length s)) e
   where
     k : ℕ
     k = zeros_at s at 32
 
     go : (a : Bool) → ltb k 32 ≡ a → (b : Bool)
-        → cond a (cond b (taken (2 ^ k - 1 + field_at s (at + k + 1) k) (at + k + 1 + k)) (taken (2 ^ k - 1) (at + k + k))) (refused code_too_long) ≡ taken v next
+        → cond a (cond b (taken (2 ^ k - 1 + field_at s (at + k + 1) k) (at + k + 1 + k)) (refused code_past_end)) (refused code_too_long) ≡ taken v next
         → Near at next
     go true f true h = let y : at + k + 1 + k ≡ next = cc in let l = ltb-true k 32 f in record { least = omega arith; most = omega arith }
-    go true f false h = let y : at + k + k ≡ next = cc in let l = ltb-true k 32 f in record { least = omega arith; most = omega arith }
+    go true f false h = absurd (let n : ◌≡◌ {A = ℕ} 0 1 = cc in omega arith)
     go false f b h = absurd (let n : ◌≡◌ {A = ℕ} 0 1 = cc in omega arith)

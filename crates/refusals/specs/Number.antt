@@ -136,3 +136,7 @@ item_missing = 33
 -- layers: vps_video_parameter_set_id 0, directly before 5
 abbrev pub id_zero : ℕ
 id_zero = 34
+
+-- each ue: its last bit lies past the end, and no 32 zeros stand before it; before the limits of its value
+abbrev pub code_past_end : ℕ
+code_past_end = 35

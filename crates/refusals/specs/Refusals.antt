@@ -4,7 +4,7 @@ use Rattle.std.proofs.Common.{arith}
 use Rattle.refusals.specs.Answer.{Answer}
 use Rattle.refusals.specs.Answer.Answer.{success, refusal}
 use Rattle.refusals.specs.declared.refusal.Refusal.{Refusal}
-use Rattle.refusals.specs.declared.refusal.Refusal.TheVariants.{UnitTooShort, NotAVps, RbspTooLong, WorkTooShort, SublayersReserved, LayerIdsNotRising, NoDirectReference, ModeReserved, NoOutputLayer, PtlsOverSets, PtlMaxTid, PtlAlignment, PtlIndex, CodeTooLong, DpbSlots, DpbMaxTid, DpbBuffering, DpbReorder, DpbDepth, DpbIndex, TimingZero, ScheduleCount, TimingEntries, TimingMaxTid, ElementalDuration, TimingIndex, StopBitMissing, StopBitZero, AlignmentBitOne, RecordTooShort, NotWellFormed, OutputTooShort, ItemMissing, IdZero}
+use Rattle.refusals.specs.declared.refusal.Refusal.TheVariants.{UnitTooShort, NotAVps, RbspTooLong, WorkTooShort, SublayersReserved, LayerIdsNotRising, NoDirectReference, ModeReserved, NoOutputLayer, PtlsOverSets, PtlMaxTid, PtlAlignment, PtlIndex, CodeTooLong, DpbSlots, DpbMaxTid, DpbBuffering, DpbReorder, DpbDepth, DpbIndex, TimingZero, ScheduleCount, TimingEntries, TimingMaxTid, ElementalDuration, TimingIndex, StopBitMissing, StopBitZero, AlignmentBitOne, RecordTooShort, NotWellFormed, OutputTooShort, ItemMissing, IdZero, CodePastEnd}
 use Rattle.refusals.specs.declared.refusal.NoRefusal.{NoRefusal}
 use Rattle.refusals.specs.Number as Number
 
@@ -43,6 +43,7 @@ number_of NotWellFormed = Number.not_well_formed
 number_of OutputTooShort = Number.output_too_short
 number_of ItemMissing = Number.item_missing
 number_of IdZero = Number.id_zero
+number_of CodePastEnd = Number.code_past_end
 
 -- the result is the refusal with this number, or an error with a number that none has
 abbrev pub Decodes : ℕ → Result Refusal NoRefusal → Type 0
@@ -89,3 +90,4 @@ number_some NotWellFormed = omega arith
 number_some OutputTooShort = omega arith
 number_some ItemMissing = omega arith
 number_some IdZero = omega arith
+number_some CodePastEnd = omega arith

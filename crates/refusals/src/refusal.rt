@@ -78,6 +78,8 @@ pub enum Refusal {
     ItemMissing = 33,
     // layers: vps_video_parameter_set_id 0, directly before 5
     IdZero = 34,
+    // each ue: its last bit lies past the end, and no 32 zeros stand before it; before the limits of its value
+    CodePastEnd = 35,
 }
 
 // A number that no refusal has.
@@ -134,6 +136,7 @@ impl TryFrom<u32> for Refusal {
             32 => Ok(Refusal::OutputTooShort),
             33 => Ok(Refusal::ItemMissing),
             34 => Ok(Refusal::IdZero),
+            35 => Ok(Refusal::CodePastEnd),
             _ => Err(NoRefusal(number)),
         }
     }

@@ -5,8 +5,8 @@ use Rattle.sentences.specs.Sentences.{sentence_of, number_of}
 use Rattle.sentences.specs.Laws.{opened}
 
 -- the first number, numbers of some places, and those that reading never gives
-sentences : map sentence_of (1 ∷ 6 ∷ 14 ∷ 22 ∷ 27 ∷ 31 ∷ 32 ∷ 33 ∷ 34 ∷ [])
-    ≡ map bytes ("header unit too-short" ∷ "layers ids not-rising" ∷ "code zeros too-many" ∷ "timing schedule-count over-31" ∷ "end stop-bit missing" ∷ "writer record malformed" ∷ "writer buffer too-short" ∷ "rates item missing" ∷ "layers set-id zero" ∷ [])
+sentences : map sentence_of (1 ∷ 6 ∷ 14 ∷ 22 ∷ 27 ∷ 31 ∷ 32 ∷ 33 ∷ 34 ∷ 35 ∷ [])
+    ≡ map bytes ("header unit too-short" ∷ "layers ids not-rising" ∷ "code zeros too-many" ∷ "timing schedule-count over-31" ∷ "end stop-bit missing" ∷ "writer record malformed" ∷ "writer buffer too-short" ∷ "rates item missing" ∷ "layers set-id zero" ∷ "code bits missing" ∷ [])
 unfolding opened
 sentences = refl
 

@@ -6,7 +6,7 @@ use Rattle.std.specs.Result.{result_ok}
 use Rattle.refusals.specs.Refusals.{number_of, number_some, Decodes}
 use Rattle.refusals.specs.declared.refusal.NoRefusal.{NoRefusal}
 use Rattle.refusals.specs.declared.refusal.Refusal.{Refusal}
-use Rattle.refusals.specs.declared.refusal.Refusal.TheVariants.{UnitTooShort, NotAVps, RbspTooLong, WorkTooShort, SublayersReserved, LayerIdsNotRising, NoDirectReference, ModeReserved, NoOutputLayer, PtlsOverSets, PtlMaxTid, PtlAlignment, PtlIndex, CodeTooLong, DpbSlots, DpbMaxTid, DpbBuffering, DpbReorder, DpbDepth, DpbIndex, TimingZero, ScheduleCount, TimingEntries, TimingMaxTid, ElementalDuration, TimingIndex, StopBitMissing, StopBitZero, AlignmentBitOne, RecordTooShort, NotWellFormed, OutputTooShort, ItemMissing, IdZero}
+use Rattle.refusals.specs.declared.refusal.Refusal.TheVariants.{UnitTooShort, NotAVps, RbspTooLong, WorkTooShort, SublayersReserved, LayerIdsNotRising, NoDirectReference, ModeReserved, NoOutputLayer, PtlsOverSets, PtlMaxTid, PtlAlignment, PtlIndex, CodeTooLong, DpbSlots, DpbMaxTid, DpbBuffering, DpbReorder, DpbDepth, DpbIndex, TimingZero, ScheduleCount, TimingEntries, TimingMaxTid, ElementalDuration, TimingIndex, StopBitMissing, StopBitZero, AlignmentBitOne, RecordTooShort, NotWellFormed, OutputTooShort, ItemMissing, IdZero, CodePastEnd}
 use Rattle.sentences.specs.Sentences.{table, last_number, sentence_of}
 use Rattle.sentences.specs.Laws.{InTable, no_words, nothing_said}
 
@@ -51,17 +51,18 @@ number_most NotWellFormed = omega arith
 number_most OutputTooShort = omega arith
 number_most ItemMissing = omega arith
 number_most IdZero = omega arith
+number_most CodePastEnd = omega arith
 
 pub in_table_of : (refusal : Refusal) → InTable (number_of refusal)
 in_table_of refusal = record { first = number_some refusal; last = number_most refusal }
 
 -- ── The refusal of a number ───────────────────────────────────────────
 refusals : List Refusal
-refusals = UnitTooShort ∷ NotAVps ∷ RbspTooLong ∷ WorkTooShort ∷ SublayersReserved ∷ LayerIdsNotRising ∷ NoDirectReference ∷ ModeReserved ∷ NoOutputLayer ∷ PtlsOverSets ∷ PtlMaxTid ∷ PtlAlignment ∷ PtlIndex ∷ CodeTooLong ∷ DpbSlots ∷ DpbMaxTid ∷ DpbBuffering ∷ DpbReorder ∷ DpbDepth ∷ DpbIndex ∷ TimingZero ∷ ScheduleCount ∷ TimingEntries ∷ TimingMaxTid ∷ ElementalDuration ∷ TimingIndex ∷ StopBitMissing ∷ StopBitZero ∷ AlignmentBitOne ∷ RecordTooShort ∷ NotWellFormed ∷ OutputTooShort ∷ ItemMissing ∷ IdZero ∷ []
+refusals = UnitTooShort ∷ NotAVps ∷ RbspTooLong ∷ WorkTooShort ∷ SublayersReserved ∷ LayerIdsNotRising ∷ NoDirectReference ∷ ModeReserved ∷ NoOutputLayer ∷ PtlsOverSets ∷ PtlMaxTid ∷ PtlAlignment ∷ PtlIndex ∷ CodeTooLong ∷ DpbSlots ∷ DpbMaxTid ∷ DpbBuffering ∷ DpbReorder ∷ DpbDepth ∷ DpbIndex ∷ TimingZero ∷ ScheduleCount ∷ TimingEntries ∷ TimingMaxTid ∷ ElementalDuration ∷ TimingIndex ∷ StopBitMissing ∷ StopBitZero ∷ AlignmentBitOne ∷ RecordTooShort ∷ NotWellFormed ∷ OutputTooShort ∷ ItemMissing ∷ IdZero ∷ CodePastEnd ∷ []
 
 -- of number k + 1
 named : ℕ → Refusal
-named k = get_or refusals k IdZero
+named k = get_or refusals k CodePastEnd
 
 is_named : ℕ → Bool
 is_named k = eqb (number_of (named k)) (suc k)

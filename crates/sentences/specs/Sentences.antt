@@ -46,6 +46,7 @@ table =
     ∷ row "writer" "buffer" "too-short"
     ∷ row "rates" "item" "missing"
     ∷ row "layers" "set-id" "zero"
+    ∷ row "code" "bits" "missing"
     ∷ []
 
 -- the last number that has a sentence

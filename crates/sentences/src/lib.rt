@@ -15,7 +15,7 @@ use text_numbers::put_decimal;
 use texts::Text;
 
 // The last number that has a sentence.
-const LAST_NUMBER: u32 = 34;
+const LAST_NUMBER: u32 = 35;
 
 // The place, the field and the fault of each refusal, from number 1 on.
 const ROWS: [[&'static str; 3]; LAST_NUMBER as usize] = [
@@ -53,6 +53,7 @@ const ROWS: [[&'static str; 3]; LAST_NUMBER as usize] = [
     ["writer", "buffer", "too-short"],
     ["rates", "item", "missing"],
     ["layers", "set-id", "zero"],
+    ["code", "bits", "missing"],
 ];
 
 // Room for every sentence: three words of at most 15 bytes and two blanks.
