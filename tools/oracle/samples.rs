@@ -15,8 +15,9 @@ pub fn write(folder: &str) -> std::io::Result<String> {
         ("extension.vps", unit(&with_extension(vec![1, 0, 1, 1]))),
         ("extension_zero.vps", unit(&with_extension(vec![1, 0]))),
         ("id_zero.vps", unit(&VvcVps { vps_video_parameter_set_id: 0, ..vps_of(U) })),
-        // the end of the unit is lost
+        // the end of the unit is lost: two zeros are left of the second set's height, or all but three bits
         ("damaged.vps", three[..three.len() - 4].to_vec()),
+        ("cut_code.vps", three[..three.len() - 2].to_vec()),
     ];
     for (name, bytes) in &samples {
         std::fs::write(Path::new(folder).join(name), bytes)?;
