@@ -3,7 +3,7 @@
 
 ghost use Rattle.std.specs.Prelude.{◌≡◌, true, ◌+◌, ◌*◌, ◌-◌, ◌/◌, ◌%◌, ◌^◌, ◌<◌, ◌≤◌, length, get_or};
 ghost use Rattle.bits.specs.Bits.{bit_at, field_at, field_width};
-ghost use Rattle.bit_fields.specs.Window.{window_start};
+ghost use Rattle.bit_fields.specs.Window.{window_start, IsFirst, IsWindow};
 
 // The number of the first n bytes, the first of them highest; past the end each byte is 0.
 // As it is (3): a copy into a padded array, tried, has six registers saved on each read of over a bit, past the end or not.
@@ -30,16 +30,6 @@ fn pair(bytes: &[u8]) -> u32
     }
 }
 
-// The 64 bits of the first eight bytes, at once where all of them stand inside.
-fn window(bytes: &[u8]) -> u64
-    ensures { result ≡ field_at bytes.now 0 64 }
-{
-    match bytes.first_chunk::<8>() {
-        Some(eight) => u64::from_be_bytes(*eight),
-        None => first_bytes(bytes, 8),
-    }
-}
-
 // Where the window of eight bytes starts in which byte i of n is looked for: there, or so far before that the window ends with
 // the last byte.
 fn window_start(n: usize, i: usize) -> usize
@@ -48,14 +38,27 @@ fn window_start(n: usize, i: usize) -> usize
     i.min(n.saturating_sub(8))
 }
 
-// The window that is laid for a place's byte, as one number, and how many of its bits stand before the place.
+// The 64 bits of the first eight bytes; none where there are fewer.
+fn window(bytes: &[u8]) -> Option<u64>
+    ensures { IsFirst bytes.now result }
+{
+    let Some(eight) = bytes.first_chunk::<8>() else {
+        return None;
+    };
+    Some(u64::from_be_bytes(*eight))
+}
+
+// The window that is laid for a place's byte, as one number, and how many of its bits stand before the place; none where there
+// are fewer than eight bytes.
 // As it is (6): near the end the window begins before the place's byte, so a slice from that byte on would not have it.
-pub fn window_for(bytes: &[u8], at: usize) -> (u64, usize)
-    ensures bits { result.0 ≡ field_at bytes.now (8 * window_start (length bytes.now) (at / 8)) 64 }
-    ensures skipped { result.1 ≡ at - 8 * window_start (length bytes.now) (at / 8) }
+pub fn window_for(bytes: &[u8], at: usize) -> Option<(u64, usize)>
+    ensures { IsWindow bytes.now at result }
 {
     let start = window_start(bytes.len(), at / 8);
-    (window(&bytes[start..]), at - 8 * start)
+    let Some(near) = window(&bytes[start..]) else {
+        return None;
+    };
+    Some((near, at - 8 * start))
 }
 
 // The field of a width behind so many bits of a window.
@@ -100,8 +103,9 @@ pub fn field_at(bytes: &[u8], at: usize, width: u32) -> u32
         return short_field(rest, (at % 8) as u32, width);
     }
     let w = bits::field_width(width);
-    let (near, skipped) = window_for(bytes, at);
-    if skipped <= (64 - w) as usize {
+    if let Some((near, skipped)) = window_for(bytes, at)
+        && skipped <= (64 - w) as usize
+    {
         return field_in(near, skipped as u32, w);
     }
     let rest = lists::behind(bytes, at / 8);

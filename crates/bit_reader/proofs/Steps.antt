@@ -6,24 +6,25 @@ use mathlib.Core.Bool.{Bool, true, false, cond}
 use native.Mathlib.Nat.{two-pow-succ, zero-div, one-mul}
 use native.Mathlib.Omega.{arith}
 use native.Mathlib.Numerals.{add-one}
-use borrow.Author.Tests.{ltb-true, ltb-false, lt-ltb, le-ltb, le-leb, eqb-true, eqb-false}
+use borrow.Author.Tests.{ltb-true, ltb-false, lt-ltb, le-leb, eqb-true, eqb-false}
 use lib.Count.{count_leading_zeros, leading_of_zero, leading_top}
 use lib.Dec.{leb, ltb, lit<}
+use Rattle.std.proofs.lemmas.Bool.{lt-leb}
 use lib.ListN.{length, get_or, drop, replicate, length-replicate, drop_of_length-le}
 use lib.Seq.{drop-cons}
 use lib.Pow.{high, low, pow_pos, pow_mono, mod-pow-add, shl_exact, shl_lt, shl-shr, shr-shr}
 use Rattle.std.specs.List.{list_any}
 use Rattle.std.proofs.Common.{nat_eq, not}
-use Rattle.refusals.specs.Number.{code_too_long}
+use Rattle.refusals.specs.Number.{code_too_long, code_past_end}
 use Rattle.bits.specs.Bits.{bit_at, field_at, field_width, ones_from, to_boundary, bits_of}
 use Rattle.bits.specs.Reading.{more_data}
 use Rattle.bits.specs.Code.{zeros_at, code_behind, code_at}
 use Rattle.bits.specs.Code.Taken.{taken, refused}
 use Rattle.bits.specs.FieldLaws.{bit_lt, one_inside, field_lt, field_one, field_split, field_high, field_low, BitsAt, bits_right, bits_field, bits_of_zero, field_byte}
-use Rattle.bit_fields.specs.Window.{window_start, window_start_le}
+use Rattle.bit_fields.specs.Window.{window_start, window_start_le, Laid, window_ends_inside}
 use Rattle.bits.specs.RestLaws.{rest_ones_from}
 use Rattle.bits.specs.OneLaws.{ones_past_end, ones_behind_zeros, ones_in_field}
-use Rattle.bits.specs.CodeLaws.{zeros_to_end, zeros_past_end, zeros_all, code_at_lem}
+use Rattle.bits.specs.CodeLaws.{zeros_found, zeros_to_end, zeros_past_end, zeros_all, code_at_lem}
 
 -- ── Fields ────────────────────────────────────────────────────────────
 -- a width of 32 at the most is the field's width
@@ -33,25 +34,6 @@ width_is w h = go (ltb w 32) refl
     go : (t : Bool) → ltb w 32 ≡ t → cond t w 32 ≡ w
     go true e = refl
     go false e = omega (arith, ltb-false w 32 e)
-
--- the other way: a field's width below 32 is the width asked for, and is never more
-pub width_short : (w : ℕ) → field_width w < 32 → field_width w ≡ w
-width_short w = go (ltb w 32)
-  where
-    go : (t : Bool) → cond t w 32 < 32 → cond t w 32 ≡ w
-    go true h = refl
-    go false h = absurd (omega arith)
-
-pub width_le : (w : ℕ) → field_width w ≤ w
-width_le w = go (ltb w 32) refl
-  where
-    go : (t : Bool) → ltb w 32 ≡ t → cond t w 32 ≤ w
-    go true e = omega arith
-    go false e = ltb-false w 32 e
-
--- the power that a shift of 1 gives
-pub one_shl : (k w : ℕ) → k < w → 1 * 2 ^ k % 2 ^ w ≡ 2 ^ k
-one_shl k w h = shl_exact 1 k w (lit< tt) (omega arith) ∙ one-mul (2 ^ k)
 
 -- ── Codes ─────────────────────────────────────────────────────────────
 -- a field of 0 is zeros, and a field of 1 is zeros and then a one
@@ -63,17 +45,18 @@ unfolding bits_of
 bits_of_one_field s at k e = rw (e, bits_of, bits_of_zero k) at (bits_field s at (suc k))
 
 -- 32 zeros are no code
-pub no_code : (s : List ℕ) (at : ℕ) → field_at s at 32 ≡ 0 → 32 ≤ 8 * length s - at → code_at s at ≡ refused code_too_long
+pub no_code : (s : List ℕ) (at : ℕ) → field_at s at 32 ≡ 0 → at + 31 < 8 * length s → code_at s at ≡ refused code_too_long
 unfolding code_at
 no_code s at e h = rw (zeros_all s at 32 (omega arith) (bits_of_zero_field s at 32 e)) refl
 
--- fewer, up to the end, are the prefix of a code whose suffix is 0
-pub code_cut : (s : List ℕ) (at n : ℕ) → field_at s at 32 ≡ 0 → n < 32 → n ≡ 8 * length s - at → code_at s at ≡ taken (2 ^ n - 1) (at + 2 * n)
+-- fewer, up to the end, are the prefix of a code that the end cuts
+pub zeros_cut : (s : List ℕ) (at : ℕ) → field_at s at 32 ≡ 0 → 8 * length s ≤ at + 31 → code_at s at ≡ refused code_past_end
 unfolding code_at code_behind
-code_cut s at n e l q =
-    let m : at + n + n ≡ at + 2 * n = omega arith in
-    rw (counted (ltb at (8 * length s)) refl, lt-ltb n 32 l, le-ltb (at + n) (8 * length s) (omega arith), m) refl
+zeros_cut s at e l = rw (counted (ltb at (8 * length s)) refl, lt-ltb n 32 (omega arith), lt-leb (at + n + 1 + n) (8 * length s) (omega arith)) refl
   where
+    n : ℕ
+    n = 8 * length s - at
+
     zeros : field_at s at n ≡ 0
     zeros =
         let m : n + (32 - n) ≡ 32 = omega arith in
@@ -83,11 +66,17 @@ code_cut s at n e l q =
     counted true f = let g = ltb-true at (8 * length s) f in zeros_to_end s at 32 n (omega arith) (omega arith) (bits_of_zero_field s at n zeros)
     counted false f = let g = ltb-false at (8 * length s) f in zeros_past_end s at 32 g ∙ omega arith
 
--- behind k zeros stands the first one, and the code is the number in k + 1 bits from it on, less one
+-- behind k zeros stands the first one, and the code is the number in k + 1 bits from it on, less one, if all of them stand inside
 pub record FirstOne (s : List ℕ) (at k : ℕ) : Type 0 where
   pub short : k < 32
   pub some : 1 ≤ field_at s (at + k) (k + 1)
-  pub code : code_at s at ≡ taken (field_at s (at + k) (k + 1) - 1) (at + k + (k + 1))
+  pub whole : at + 2 * k < 8 * length s → code_at s at ≡ taken (field_at s (at + k) (k + 1) - 1) (at + k + (k + 1))
+  pub cut : 8 * length s ≤ at + 2 * k → code_at s at ≡ refused code_past_end
+
+-- the one stands inside, and so may its suffix or not
+suffix_cut : (s : List ℕ) (at k : ℕ) → k < 32 → at + k < 8 * length s → BitsAt s at (replicate k 0 ++ (1 ∷ [])) → 8 * length s ≤ at + 2 * k → code_at s at ≡ refused code_past_end
+unfolding code_at code_behind
+suffix_cut s at k h i b l = rw (zeros_found s at 32 k h i b, lt-ltb k 32 h, lt-leb (at + k + 1 + k) (8 * length s) (omega arith)) refl
 
 one_behind : (s : List ℕ) (at k : ℕ) → k < 32 → field_at s at (suc k) ≡ 1 → FirstOne s at k
 one_behind s at k h f =
@@ -98,7 +87,12 @@ one_behind s at k h f =
     let p = pow_pos k in
     let v : 2 ^ k - 1 + field_at s (at + k + 1) k ≡ field_at s (at + k) (k + 1) - 1 = omega arith in
     let y : at + k + 1 + k ≡ at + k + (k + 1) = omega arith in
-    record { short = h; some = omega arith; code = code_at_lem s at k h (one_inside s (at + k) o) b ∙ rw (v, y) refl }
+    record {
+      short = h;
+      some = omega arith;
+      whole = λ l. code_at_lem s at k h (omega (arith, l)) b ∙ rw (v, y) refl;
+      cut = suffix_cut s at k h (one_inside s (at + k) o) b;
+    }
 
 -- a number from 2 ^ j on and below twice that has a 1 above its j lowest bits
 top_is_one : (a j : ℕ) → 2 ^ j ≤ a → a < 2 ^ suc j → a / 2 ^ j ≡ 1
@@ -106,8 +100,13 @@ top_is_one a j f g =
     let x : 1 * 2 ^ j + (a - 2 ^ j) ≡ a = omega arith in
     rw x at (high 1 j {lo = a - 2 ^ j} (omega (arith, two-pow-succ j)))
 
-pub first_one : (s : List ℕ) (at window : ℕ) → window ≡ field_at s at 32 → (window ≡ 0 → ⊥) → FirstOne s at (count_leading_zeros 32 window)
-first_one s at window e n = let t = leading_top 32 window (omega arith) (omega (arith, field_lt s at 32)) in go (count_leading_zeros 32 window) t.0 t.1 (omega (arith, t.2)) (omega (arith, t.3))
+-- a window without a one is 0
+pub no_one : (window : ℕ) → window < 2 ^ 32 → count_leading_zeros 32 window ≡ 32 → window ≡ 0
+no_one zero l z = refl
+no_one (suc w) l z = let t = leading_top 32 (suc w) (omega arith) l in absurd (omega (arith, z, t.1))
+
+pub first_one : (s : List ℕ) (at window : ℕ) → window ≡ field_at s at 32 → (count_leading_zeros 32 window ≡ 32 → ⊥) → FirstOne s at (count_leading_zeros 32 window)
+first_one s at window e m = let n = λ (z : window ≡ 0). m (ap (count_leading_zeros 32) z ∙ leading_of_zero 32) in let t = leading_top 32 window (omega arith) (omega (arith, field_lt s at 32)) in go (count_leading_zeros 32 window) t.0 t.1 (omega (arith, t.2)) (omega (arith, t.3))
   where
     go : (k j : ℕ) → k + suc j ≡ 32 → 2 ^ j ≤ field_at s at 32 → field_at s at 32 < 2 ^ suc j → FirstOne s at k
     go k j e f g =
@@ -153,8 +152,8 @@ pub record NearCode (s : List ℕ) (at num z : ℕ) : Type 0 where
   pub some : 1 ≤ num
   pub code : code_at s at ≡ taken (num - 1) (at + 2 * z + 1)
 
-pub near_code : (s : List ℕ) (at k rest : ℕ) → k ≤ 63 → rest ≡ field_at s at (64 - k) * 2 ^ k → 2 * count_leading_zeros 64 rest ≤ 63 - k → NearCode s at (rest / 2 ^ (63 - 2 * count_leading_zeros 64 rest)) (count_leading_zeros 64 rest)
-near_code s at k rest h e l = let t = leading_top 64 rest (positive rest l) small in go (count_leading_zeros 64 rest) t.0 t.1 t.2 t.3 l
+pub near_code : (s : List ℕ) (at k rest : ℕ) → k ≤ 63 → at + (64 - k) ≤ 8 * length s → rest ≡ field_at s at (64 - k) * 2 ^ k → 2 * count_leading_zeros 64 rest ≤ 63 - k → NearCode s at (rest / 2 ^ (63 - 2 * count_leading_zeros 64 rest)) (count_leading_zeros 64 rest)
+near_code s at k rest h i e l = let t = leading_top 64 rest (positive rest l) small in go (count_leading_zeros 64 rest) t.0 t.1 t.2 t.3 l
   where
     small : rest < 2 ^ 64
     small = let m : 64 - k + k ≡ 64 = omega arith in rw e (rw m at (shl_lt (64 - k) k (field_lt s at (64 - k))))
@@ -173,16 +172,16 @@ near_code s at k rest h e l = let t = leading_top 64 rest (positive rest l) smal
         let y : rest / 2 ^ (63 - 2 * z) ≡ field_at s (at + z) (z + 1) = n ∙ field_split s at z (z + 1) ∙ rw (none_before s at z one) (omega arith) in
         let p : 2 ^ (z + 1) ≤ 2 ^ 32 = pow_mono {i = z + 1} {j = 32} (omega arith) in
         let b : at + z + (z + 1) ≡ at + 2 * z + 1 = omega arith in
-        record { fits = omega (arith, field_lt s (at + z) (z + 1)); some = omega (arith, o.some); code = o.code ∙ rw (y, b) refl }
+        record { fits = omega (arith, field_lt s (at + z) (z + 1)); some = omega (arith, o.some); code = o.whole (omega (arith, i, l)) ∙ rw (y, b) refl }
 
 -- and the same of the window that is laid for the place
-pub code_in_window : (s : List ℕ) (at : ℕ) {window k : ℕ} → window ≡ field_at s (8 * window_start (length s) (at / 8)) 64 → k ≡ at - 8 * window_start (length s) (at / 8) → k ≤ 63
+pub code_in_window : (s : List ℕ) (at : ℕ) {window k : ℕ} → Laid s at window k → k ≤ 63
     → 2 * count_leading_zeros 64 (window * 2 ^ k % 2 ^ 64) ≤ 63 - k
     → NearCode s at (window * 2 ^ k % 2 ^ 64 / 2 ^ (63 - 2 * count_leading_zeros 64 (window * 2 ^ k % 2 ^ 64))) (count_leading_zeros 64 (window * 2 ^ k % 2 ^ 64))
-code_in_window s at {window} {k} e q h l =
+code_in_window s at {window} {k} W h l =
     let i = window_start (length s) (at / 8) in
     let below : 8 * i ≤ at = omega (arith, window_start_le (length s) (at / 8)) in
-    near_code s at k (window * 2 ^ k % 2 ^ 64) h (rest_of_window s i at window k e q below h) l
+    near_code s at k (window * 2 ^ k % 2 ^ 64) h (omega (arith, W.before, below, window_ends_inside (length s) (at / 8) W.full)) (rest_of_window s i at window k W.bits W.before below h) l
 
 -- ── Trailing bits ─────────────────────────────────────────────────────
 -- behind the stop bit the boundary is as far as the byte's bits behind it

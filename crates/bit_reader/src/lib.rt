@@ -16,49 +16,34 @@ struct Place<'a> {
 }
 
 impl Place<'_> {
-    ghost use Rattle.std.specs.Prelude.{◌≡◌, ◌*◌, ◌-◌, length};
-    ghost use Rattle.bits.specs.Bits.{field_at, field_width};
+    ghost use Rattle.std.specs.Prelude.{◌≡◌, ◌+◌, ◌*◌, ◌<◌, ltb, length};
+    ghost use Rattle.bits.specs.Bits.{field_at};
     ghost use Rattle.bits.specs.Code.{code_at};
     ghost use Rattle.bits.specs.Reading.{more_data};
     ghost use Rattle.bit_reader.specs.Answers.{code_answer};
 
-    // How many bits are left from the place on, 32 at the most.
-    fn bits_left(&self) -> u32
-        ensures { result ≡ field_width (8 * length self.now.bytes.now - self.now.at) }
+    // Whether the bit so far behind the place stands among the bytes.
+    fn has_bit(&self, behind: u32) -> bool
+        requires { behind < 64 }
+        ensures { result ≡ ltb (self.now.at + behind) (8 * length self.now.bytes.now) }
     {
-        let i = self.at / 8;
-        if self.bytes.len() <= i {
-            return 0;
-        }
-        let whole = self.bytes.len() - i;
-        if 4 < whole {
-            return 32;
-        }
-        (8 * whole - self.at % 8) as u32
-    }
-
-    // A code where none of the next 32 bits is a one: too long, or cut by the end. Its number, and the place behind it.
-    fn code_of_zeros(&self) -> Result<(u32, usize), Refusal>
-        requires { field_at self.now.bytes.now self.now.at 32 ≡ 0 }
-        ensures { code_answer result ≡ code_at self.now.bytes.now self.now.at }
-    {
-        let zeros = self.bits_left();
-        if 32 <= zeros {
-            return Err(Refusal::CodeTooLong);
-        }
-        let next = self.at + 2 * zeros as usize;
-        Ok(((1u32 << zeros) - 1, next))
+        (self.at + behind as usize) / 8 < self.bytes.len()
     }
 
     // A code by its prefix among the next 32 bits, and then its number: also one that is too long for a window, or cut by the end.
     fn code_by_fields(&self) -> Result<(u32, usize), Refusal>
         ensures { code_answer result ≡ code_at self.now.bytes.now self.now.at }
     {
-        let window = field_at(self.bytes, self.at, 32);
-        if window == 0 {
-            return self.code_of_zeros();
+        let zeros = u32::leading_zeros(field_at(self.bytes, self.at, 32));
+        if zeros == 32 {
+            if self.has_bit(31) {
+                return Err(Refusal::CodeTooLong);
+            }
+            return Err(Refusal::CodePastEnd);
         }
-        let zeros = u32::leading_zeros(window);
+        if !self.has_bit(2 * zeros) {
+            return Err(Refusal::CodePastEnd);
+        }
         let one = self.at + zeros as usize;
         let code_num = field_at(self.bytes, one, zeros + 1);
         let next = one + (zeros + 1) as usize;
@@ -70,7 +55,9 @@ impl Place<'_> {
         ensures { code_answer result ≡ code_at self.now.bytes.now self.now.at }
     {
         let at = self.at;
-        let (window, skipped) = window_for(self.bytes, at);
+        let Some((window, skipped)) = window_for(self.bytes, at) else {
+            return self.code_by_fields();
+        };
         if 63 < skipped {
             return self.code_by_fields();
         }

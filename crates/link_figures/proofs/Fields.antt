@@ -5,9 +5,9 @@ use Rattle.std.proofs.Math.Pow.{pow_mono}
 use Rattle.std.proofs.Math.Nat.{two-pow-succ, one-le-pow}
 use Rattle.refusals.specs.Number.{code_too_long}
 use Rattle.bits.specs.Bits.{field_at}
-use Rattle.bits.specs.Code.{zeros_at, code_behind, code_at}
+use Rattle.bits.specs.Code.{code_at}
 use Rattle.bits.specs.Code.Taken.{taken, refused}
-use Rattle.bits.specs.FieldLaws.{field_lt}
+use Rattle.bits.specs.CodeLaws.{code_whole}
 use Rattle.vps_definition.specs.Syntax.{Token, run, keeping}
 use Rattle.vps_definition.specs.Syntax.Token.{number}
 use Rattle.vps_definition.specs.Syntax.Syntax.{done}
@@ -27,22 +27,6 @@ use Rattle.record_timing.specs.declared.schedule.Kind.TheVariants.{Nal, Vcl}
 use Rattle.record_timing.specs.Timing.{flag_of, schedule_at}
 use Rattle.record_timing.specs.Few.{viewed}
 
-code_small : (s : List ℕ) (at v next : ℕ) → code_at s at ≡ taken v next → v < 4294967295
-unfolding code_at code_behind
-code_small s at v next e = go (zeros_at s at 32) (ltb (zeros_at s at 32) 32) refl (ltb (at + zeros_at s at 32) (8 * length s)) e
-  where
-    go : (k : ℕ) (a : Bool) → ltb k 32 ≡ a → (b : Bool)
-        → cond a (cond b (taken (2 ^ k - 1 + field_at s (at + k + 1) k) (at + k + 1 + k)) (taken (2 ^ k - 1) (at + k + k))) (refused code_too_long) ≡ taken v next → v < 4294967295
-    go k true f true h =
-        let x : 2 ^ k - 1 + field_at s (at + k + 1) k ≡ v = cc in
-        let w : 2 ^ suc k ≤ 4294967296 = pow_mono {j = 32} (ltb-true k 32 f) in
-        omega (arith, x, w, two-pow-succ k, field_lt s (at + k + 1) k, one-le-pow k 2 (lit< tt))
-    go k true f false h =
-        let x : 2 ^ k - 1 ≡ v = cc in
-        let w : 2 ^ suc k ≤ 4294967296 = pow_mono {j = 32} (ltb-true k 32 f) in
-        omega (arith, x, w, two-pow-succ k, one-le-pow k 2 (lit< tt))
-    go k false f b h = absurd (let n : ◌≡◌ {A = ℕ} 0 1 = cc in omega arith)
-
 ue_small : (s : List ℕ) (at : ℕ) {a : ℕ} {t : List Token} {next : ℕ} → run ue s at ≡ accepted a t next → a < 4294967295
 unfolding ue run
 ue_small s at {a} e =
@@ -50,7 +34,7 @@ ue_small s at {a} e =
     let K = keeping_accepted (number (C.value + 0)) (run (done (C.value + 0)) s C.behind) C.inner in
     let k = K.inner in
     let v : C.value + 0 ≡ a = cc in
-    omega (arith, v, code_small s at C.value C.behind C.is)
+    omega (arith, v, (code_whole s at C.value C.behind C.is).small)
 
 keeps_small : Keeps (λ v t. v < 4294967295) ue
 keeps_small = record { holds = λ s at e. ue_small s at e }

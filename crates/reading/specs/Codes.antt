@@ -1,16 +1,12 @@
 -- What codes rest on, over plain values.
-use Rattle.std.specs.Prelude.{ℕ, suc, ◌+◌, ◌*◌, ◌-◌, ◌^◌, ◌≤◌, ◌<◌, ◌≡◌, List, Bool, true, false, cond, ltb, length, set, Ok, Err}
+use Rattle.std.specs.Prelude.{ℕ, ◌+◌, ◌^◌, ◌<◌, ◌≡◌, List, set, Ok, Err}
 use Rattle.std.proofs.Math.Path.{refl}
-use Rattle.std.proofs.Common.{arith, ltb-true, lt-ltb}
-use native.Mathlib.Nat.{two-pow-succ}
-use lib.Pow.{pow_mono}
-use Rattle.refusals.specs.Number.{code_too_long}
+use Rattle.std.proofs.Common.{arith, lt-ltb}
 use Rattle.refusals.specs.declared.refusal.Refusal.{Refusal}
-use Rattle.bits.specs.Bits.{field_at}
-use Rattle.bits.specs.Code.{Taken, zeros_at, code_behind, code_at}
-use Rattle.bits.specs.Code.Taken.{taken, refused}
+use Rattle.bits.specs.Code.{Taken, code_at}
+use Rattle.bits.specs.Code.Taken.{taken}
 use Rattle.bits.specs.Reading.{read_code}
-use Rattle.bits.specs.FieldLaws.{field_lt}
+use Rattle.bits.specs.CodeLaws.{code_whole}
 use Rattle.vps_definition.specs.Syntax.{run}
 use Rattle.vps_definition.specs.Syntax.Syntax.{code, done}
 use Rattle.vps_laws.specs.Inversion.{read_code_as}
@@ -27,21 +23,7 @@ code_said s {at} h e = rw (lt-ltb at (2 ^ 63) (omega arith)) at e
 
 -- a code's number leaves room for one more
 pub code_small : {v next : ℕ} (s : List ℕ) (at : ℕ) → code_at s at ≡ taken v next → v < 4294967295
-unfolding code_at code_behind
-code_small {v} {next} s at e = go (ltb k 32) refl (ltb (at + k) (8 * length s)) e
-  where
-    k : ℕ
-    k = zeros_at s at 32
-
-    small : k < 32 → v ≤ 2 ^ k - 1 + (2 ^ k - 1) → v < 4294967295
-    small l h = let q : 2 ^ suc k ≤ 2 ^ 32 = pow_mono l in omega (arith, two-pow-succ k)
-
-    go : (a : Bool) → ltb k 32 ≡ a → (b : Bool)
-        → cond a (cond b (taken (2 ^ k - 1 + field_at s (at + k + 1) k) (at + k + 1 + k)) (taken (2 ^ k - 1) (at + k + k))) (refused code_too_long) ≡ taken v next
-        → v < 4294967295
-    go true f true h = let y : 2 ^ k - 1 + field_at s (at + k + 1) k ≡ v = cc in small (ltb-true k 32 f) (omega (arith, field_lt s (at + k + 1) k))
-    go true f false h = let y : 2 ^ k - 1 ≡ v = cc in small (ltb-true k 32 f) (omega arith)
-    go false f b h = absurd (let n : ◌≡◌ {A = ℕ} 0 1 = cc in omega arith)
+code_small s at e = (code_whole s at _ _ e).small
 
 -- a code that was read is the table's, and is stored with `plus` added
 pub meets_code : {plus v total : ℕ} {s s₁ s₂ : Reading} → s.at < limit → Coded s (Ok v) s₁ → v + plus ≡ total → Stands s₁ s₂ s₁.at (s₁.n + 1) (set s₁.rec.now s₁.n total) → Meets ℕ (code plus done) s (Ok total) s₂

@@ -4,7 +4,7 @@ use Rattle.std.specs.Prelude.{ℕ, ◌/◌, ◌≤◌, ◌<◌, ◌≡◌, refl,
 use Rattle.std.proofs.Common.{inl, inr, arith, leb-true}
 use Rattle.refusals.specs.Answer.{Answer}
 use Rattle.refusals.specs.Answer.Answer.{success, refusal}
-use Rattle.refusals.specs.Number.{unit_too_short, work_too_short, sublayers_reserved, timing_index, stop_bit_missing, alignment_bit_one, record_too_short, not_well_formed, output_too_short, item_missing}
+use Rattle.refusals.specs.Number.{unit_too_short, work_too_short, sublayers_reserved, timing_index, stop_bit_missing, alignment_bit_one, record_too_short, not_well_formed, output_too_short, item_missing, code_past_end}
 use Rattle.refusals.specs.Lent.{lent}
 use Rattle.stuffing.specs.Stuffing.{unstuff}
 use Rattle.sentences.specs.Sentences.{table, last_number}
@@ -50,6 +50,11 @@ table_other : TableSaid Other today
 unfolding last_number table
 table_other = record { table = others sublayers_reserved timing_index (omega arith) (omega arith); id = λ e. record { is = record { worded = record { first = omega arith; last = omega arith }; long = λ q. omega (arith, q) } } }
 
+-- and that of a code that is cut
+cut_other : Said Other code_past_end
+unfolding last_number table
+cut_other = record { is = record { worded = record { first = omega arith; last = omega arith }; long = λ q. omega (arith, q) } }
+
 abbrev ParseOther : Parse → Type 0
 ParseOther (accepted n bits) = Unit {0}
 ParseOther (too_short needed) = Unit {0}
@@ -75,7 +80,7 @@ parse_other (a ∷ []) work lent = first_other.each _ refl refl
 parse_other (a ∷ b ∷ s) work lent =
     either_other (eqb (b / 8) vps_nut) _ _
     (either_other (leb (length (unstuff s)) most_rbsp_bytes) _ _
-    (either_other (leb (length (unstuff s)) (length work)) _ _ (reading_other lent (read_rbsp (unstuff s)) (rbsp_says today table_other (others stop_bit_missing alignment_bit_one (omega arith) (omega arith)) (unstuff s))) (first_other.each _ refl refl))
+    (either_other (leb (length (unstuff s)) (length work)) _ _ (reading_other lent (read_rbsp (unstuff s)) (rbsp_says today table_other cut_other (others stop_bit_missing alignment_bit_one (omega arith) (omega arith)) (unstuff s))) (first_other.each _ refl refl))
     (first_other.each _ refl refl))
     (first_other.each _ refl refl)
 

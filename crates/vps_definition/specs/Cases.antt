@@ -79,10 +79,21 @@ table =
     ∷ case (added (0 ∷ 0 ∷ 0 ∷ 0 ∷ [])) (bytes (0 ∷ 0 ∷ 3 ∷ 0 ∷ 0 ∷ 3 ∷ []))
     -- P2 to P6
     ∷ case (code (0b00111000 ∷ []) 0) (value 6 5)
-    ∷ case (code [] 0) (value 0 0)
-    ∷ case (code (0b11111100 ∷ []) 6) (value 3 10)
+    ∷ case (code [] 0) (no 35)
+    ∷ case (code (0b11111100 ∷ []) 6) (no 35)
     ∷ case (code (0 ∷ 0 ∷ 0 ∷ 1 ∷ 255 ∷ 255 ∷ 255 ∷ 254 ∷ []) 0) (value 4294967294 63)
     ∷ case (code (0 ∷ 0 ∷ 0 ∷ 0 ∷ []) 0) (no 14)
+    -- 31 zeros and the end; 31 zeros, the one and no suffix; 32 zeros and a one
+    ∷ case (code (0 ∷ 0 ∷ 0 ∷ 0 ∷ []) 1) (no 35)
+    ∷ case (code (0 ∷ 0 ∷ 0 ∷ 1 ∷ []) 0) (no 35)
+    ∷ case (code (0 ∷ 0 ∷ 0 ∷ 0 ∷ 128 ∷ []) 0) (no 14)
+    -- codes up to the last bit: of one bit, of five, and the longest; and each with its last bit past the end
+    ∷ case (code (1 ∷ []) 7) (value 0 8)
+    ∷ case (code (1 ∷ []) 8) (no 35)
+    ∷ case (code (0b00000110 ∷ []) 3) (value 5 8)
+    ∷ case (code (0b00000011 ∷ []) 4) (no 35)
+    ∷ case (code (0 ∷ 0 ∷ 0 ∷ 0 ∷ 255 ∷ 255 ∷ 255 ∷ 255 ∷ []) 1) (value 4294967294 64)
+    ∷ case (code (0 ∷ 0 ∷ 0 ∷ 1 ∷ 255 ∷ 255 ∷ 255 ∷ []) 0) (no 35)
     -- P7 to P12: U, U and FF, and U with another last byte
     ∷ case (read (unit 0x40)) (vps_record (record_u 0 (0 ∷ []) 38) 64)
     ∷ case (read (unit 0x40 ++ (0xff ∷ []))) (vps_record (record_u 0 (0 ∷ []) 38) 64)
@@ -150,8 +161,8 @@ table =
     ∷ case (read (0 ∷ 0x71 ∷ 0x10 ∷ 0x40 ∷ 0 ∷ 0x48 ∷ 0 ∷ 2 ∷ 0x33 ∷ 0 ∷ 0 ∷ 0xd0 ∷ 0 ∷ 0 ∷ 3 ∷ 0 ∷ 0 ∷ 3 ∷ [])) (no 18)
     -- depth 9, and then 32 zeros
     ∷ case (read (0 ∷ 0x71 ∷ 0x10 ∷ 0xc0 ∷ 0 ∷ 0x48 ∷ 0x44 ∷ 0x19 ∷ 0 ∷ 0x10 ∷ 2 ∷ 0x33 ∷ 0 ∷ 0 ∷ 0x33 ∷ 0 ∷ 0xa5 ∷ 0x5f ∷ 0xe0 ∷ 0xa0 ∷ 0 ∷ 0 ∷ 3 ∷ 0 ∷ 0 ∷ 3 ∷ [])) (no 19)
-    -- a code that ends among its zeros: depth 63
-    ∷ case (read (0 ∷ 0x71 ∷ 0x10 ∷ 0x40 ∷ 0 ∷ 0x48 ∷ 0 ∷ 2 ∷ 0x33 ∷ 0 ∷ 0 ∷ 0xfc ∷ 0 ∷ [])) (no 19)
+    -- a code that ends among its zeros
+    ∷ case (read (0 ∷ 0x71 ∷ 0x10 ∷ 0x40 ∷ 0 ∷ 0x48 ∷ 0 ∷ 2 ∷ 0x33 ∷ 0 ∷ 0 ∷ 0xfc ∷ 0 ∷ [])) (no 35)
     -- a DPB index of 2 for two slots
     ∷ case (read (0 ∷ 0x71 ∷ 0x10 ∷ 0xc0 ∷ 0 ∷ 0x48 ∷ 0x44 ∷ 0x19 ∷ 0 ∷ 0x10 ∷ 2 ∷ 0x33 ∷ 0 ∷ 0 ∷ 0x33 ∷ 0 ∷ 0xa5 ∷ 0x5f ∷ 0xe5 ∷ 0xa9 ∷ 0x4e ∷ 0x64 ∷ [])) (no 20)
     -- no units in a tick
@@ -166,8 +177,8 @@ table =
     ∷ case (read (0 ∷ 0x71 ∷ 0x10 ∷ 0x40 ∷ 0 ∷ 0x48 ∷ 0 ∷ 2 ∷ 0x33 ∷ 0 ∷ 0 ∷ 0xfc ∷ 0xc0 ∷ 0 ∷ 0 ∷ 3 ∷ 0 ∷ 0x40 ∷ 0 ∷ 0 ∷ 0x0c ∷ 0xa0 ∷ 3 ∷ 0x80 ∷ 8 ∷ 1 ∷ 0 ∷ 0 ∷ 3 ∷ 0 ∷ 0 ∷ 3 ∷ [])) (no 25)
     -- a timing index of 2 for two entries
     ∷ case (read (0 ∷ 0x71 ∷ 0x10 ∷ 0xc0 ∷ 0 ∷ 0x48 ∷ 0x44 ∷ 0x19 ∷ 0 ∷ 0x10 ∷ 2 ∷ 0x33 ∷ 0 ∷ 0 ∷ 0x33 ∷ 0 ∷ 0xa5 ∷ 0x5f ∷ 0xe6 ∷ 0xa5 ∷ 0x39 ∷ 0xc0 ∷ 0 ∷ 0 ∷ 3 ∷ 0 ∷ 0x40 ∷ 0 ∷ 0 ∷ 0x0c ∷ 0x84 ∷ 0x0e ∷ 0x90 ∷ [])) (no 26)
-    -- nothing left behind the timing flag
-    ∷ case (read (0 ∷ 0x71 ∷ 0x10 ∷ 0x40 ∷ 0 ∷ 0x48 ∷ 0 ∷ 2 ∷ 0x33 ∷ 0 ∷ 0 ∷ 0xfc ∷ [])) (no 27)
+    -- nothing left for the depth
+    ∷ case (read (0 ∷ 0x71 ∷ 0x10 ∷ 0x40 ∷ 0 ∷ 0x48 ∷ 0 ∷ 2 ∷ 0x33 ∷ 0 ∷ 0 ∷ 0xfc ∷ [])) (no 35)
     -- the extension flag as the RBSP's last bit, behind the indices 0, 1, 1
     ∷ case (read (0 ∷ 0x71 ∷ 0x10 ∷ 0x84 ∷ 0 ∷ 0x42 ∷ 0x80 ∷ 0x80 ∷ 2 ∷ 0x33 ∷ 0 ∷ 0 ∷ 0x33 ∷ 0 ∷ 0xa5 ∷ [])) (no 27)
     -- nothing but zeros behind the extension flag, in its byte and in a further one

@@ -16,4 +16,5 @@ pub mod RuleCases
 pub mod Layout
 pub mod Views
 pub mod ViewCases
+pub mod CutCases
 pub mod SpanCases

@@ -7,7 +7,7 @@ use Rattle.bits.specs.TrailingLaws.{trails_inside}
 use Rattle.vps_definition.specs.Rules.{Rules}
 use Rattle.vps_definition.specs.Syntax.{Syntax, ◌>>=◌, Token, run}
 use Rattle.vps_definition.specs.Syntax.Syntax.{late, test, done}
-use Rattle.vps_definition.specs.Words.{u, u_minus1, inferred, general, check, ruled, nothing, loop, repeat}
+use Rattle.vps_definition.specs.Words.{u, u_minus1, inferred, check, ruled, nothing, loop, repeat}
 use Rattle.vps_definition.specs.OutputLayerSets.{total_num_olss, num_multi_layer_olss}
 use Rattle.vps_definition.specs.ProfileTierLevel.{falling, reversed, ahead, constraint_bit, constraints, constraints_if, general_constraints_info, profile_and_tier, sub_profile, sub_profiles, profile_tier_level}
 use Rattle.vps_definition.specs.DpbParameters.{dpb_sublayer, per_sublayer, index, ols_dpb, dpb_section}
@@ -28,11 +28,11 @@ use Rattle.vps_laws.specs.Bound.{Costs, costs_so, costs_field, costs_late, costs
 -- where something is known of the first's result
 costs_bind_so : {A B : Type 0} {Q : A → List Token → Type 0} {b c : ℕ} {m : Syntax A} {f : A → Syntax B} → Keeps Q m → Costs b m → ((a : A) (t : List Token) → Q a t → Costs c (f a)) → Costs (b + c) (m >>= f)
 costs_bind_so {m = m} {f = f} R M F = record {
-  holds = λ s at e i.
+  holds = λ s at e.
       let B = run_bound m f s at e in
       let g = run_grows (f B.result) s B.middle B.second in
-      let x = M.holds s at B.first (omega arith) in
-      let y = (F B.result B.before (R.holds s at B.first)).holds s B.middle B.second i in
+      let x = M.holds s at B.first in
+      let y = (F B.result B.before (R.holds s at B.first)).holds s B.middle B.second in
       rw B.both (omega (arith, length-append B.before B.behind));
 }
 
@@ -144,10 +144,10 @@ gathers_ahead (suc n) i = gathers_more (λ v l. v ∷ l) (omega arith) (λ v l. 
 -- so they are kept at no cost
 costs_gathered : {B : Type 0} {c : ℕ} {m : Syntax (List ℕ)} {f : List ℕ → Syntax B} → Gathers m → ((l : List ℕ) → Costs (length l + c) (f l)) → Costs c (m >>= f)
 costs_gathered {m = m} {f = f} M F = record {
-  holds = λ s at e i.
+  holds = λ s at e.
       let B = run_bound m f s at e in
       let x = M.holds s at B.first in
-      let y = (F B.result).holds s B.middle B.second i in
+      let y = (F B.result).holds s B.middle B.second in
       rw B.both (omega (arith, length-append B.before B.behind));
 }
 
@@ -319,7 +319,7 @@ record_by_bits rules s r n e =
     let i = T.inside in
     let b = T.behind in
     let G = general_read rules s g P.tokens at P.reads in
-    omega (arith, ap length P.is, record_numbers g P.tokens (bits_at s at m), G.nine, bits_at_length s at m, (costs_vps rules).holds s 0 P.reads (omega arith))
+    omega (arith, ap length P.is, record_numbers g P.tokens (bits_at s at m), G.nine, bits_at_length s at m, (costs_vps rules).holds s 0 P.reads)
 
 pub record_length : (rules : Rules) (u r : List ℕ) (n : ℕ) → read_unit_under rules u ≡ accepts r n → length r ≤ most_record_numbers
 record_length rules u r n e =

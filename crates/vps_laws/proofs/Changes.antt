@@ -3,7 +3,7 @@ use Rattle.std.specs.Prelude.{ℕ, ◌+◌, ◌/◌, ◌≤◌, ◌<◌, ◌≡�
 use Rattle.std.proofs.Common.{sym, ◌∙◌, subst, arith}
 use Rattle.std.proofs.lemmas.List.Edits.{sets}
 use Rattle.refusals.specs.Answer.Answer.{refusal}
-use Rattle.refusals.specs.Number.{stop_bit_zero, not_well_formed, id_zero}
+use Rattle.refusals.specs.Number.{stop_bit_zero, not_well_formed, id_zero, code_past_end}
 use Rattle.stuffing.specs.Stuffing.{unstuff}
 use Rattle.bits.specs.Bits.{field_at}
 use Rattle.vps_definition.specs.Rules.{Rules, today, refusing_id, taking_id}
@@ -24,6 +24,10 @@ use Rattle.vps_laws.specs.Order.{header_first}
 use Rattle.vps_laws.specs.Says.{ReadingSays}
 use Rattle.vps_laws.proofs.IdRule.{IdMoved, id_moved, rbsp_refuses, record_same, Another, unit_other, accepted_was, accepted_is, some_id, ill_formed_of_zero}
 use Rattle.vps_laws.proofs.IdRule.IdMoved.{id_same, id_refused}
+use Rattle.vps_laws.specs.CutCodes.{unit_with_cut_codes}
+use Rattle.vps_laws.proofs.CutCodes.{AnswerMoved, answer_moved}
+use Rattle.vps_laws.proofs.CutCodes as CutCodes
+use Rattle.vps_laws.proofs.CutCodes.AnswerMoved.{answer_same, answer_cut}
 
 -- ── Extension bits run up to the last one-bit ─────────────────────────
 -- A unit that was accepted is accepted, with the same record and bits used.
@@ -104,3 +108,33 @@ records_with_an_id_stay = record_same
 -- Lookup gives the empty part at the end of a record with id 0.
 pub id_zero_has_no_section : (r : List ℕ) (k : ℕ) → get_or r 1 0 ≡ 0 → Found r k (length r) (length r)
 id_zero_has_no_section r k z = found_ill_formed r k (ill_formed_of_zero today r z)
+
+-- ── Codes that the end cuts are refused there ─────────────────────────
+-- No unit is lost or won: one is accepted exactly if it was, with the same record and bits used.
+pub cut_codes_were_refused : (rules : Rules) (u r : List ℕ) (n : ℕ) → (read_unit_under rules u ≡ accepts r n) ↔ (unit_with_cut_codes rules u ≡ accepts r n)
+cut_codes_were_refused rules u r n = go (answer_moved rules u)
+  where
+    go : {R S : Reading} → AnswerMoved R S → (R ≡ accepts r n) ↔ (S ≡ accepts r n)
+    go answer_same = (λ e. e, λ e. e)
+    go answer_cut = (λ e. not_accepts e, λ e. not_accepts e)
+
+-- Where the answer is another, it is 35, and was a refusal.
+pub answers_moved_to_35 : (rules : Rules) (u : List ℕ) → (read_unit_under rules u ≡ unit_with_cut_codes rules u → ⊥)
+    → (read_unit_under rules u ≡ refuses code_past_end) × ((k : ℕ) × (unit_with_cut_codes rules u ≡ refuses k))
+answers_moved_to_35 rules u = go (answer_moved rules u)
+  where
+    go : {R S : Reading} → AnswerMoved R S → (R ≡ S → ⊥) → (R ≡ refuses code_past_end) × ((k : ℕ) × (S ≡ refuses k))
+    go answer_same h = absurd (h refl)
+    go (answer_cut {n}) h = (refl, (n, refl))
+
+-- 35 was no answer before, so each 35 is another answer.
+pub cut_was_not_35 : (rules : Rules) (u : List ℕ) → unit_with_cut_codes rules u ≡ refuses code_past_end → ⊥
+cut_was_not_35 rules u e = (subst (ReadingSays CutCodes.Another) e (CutCodes.unit_other rules u)).is refl
+
+-- A unit that is refused with another number was refused with the same.
+pub other_refusals_stay : (rules : Rules) (u : List ℕ) (k : ℕ) → (k ≡ code_past_end → ⊥) → read_unit_under rules u ≡ refuses k → unit_with_cut_codes rules u ≡ refuses k
+other_refusals_stay rules u k h = go (answer_moved rules u)
+  where
+    go : {R S : Reading} → AnswerMoved R S → R ≡ refuses k → S ≡ refuses k
+    go answer_same e = e
+    go answer_cut e = let n : code_past_end ≡ k = cc in absurd (h (sym n))

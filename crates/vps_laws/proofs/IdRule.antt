@@ -1,5 +1,5 @@
 -- Id 0: the answer where it is refused beside that of the same rules where it is taken.
-use Rattle.std.specs.Prelude.{ℕ, zero, suc, ◌+◌, ◌^◌, ◌<◌, ◌≤◌, ◌≡◌, refl, List, [], Bool, true, false, ltb, leb, get_or, drop}
+use Rattle.std.specs.Prelude.{ℕ, zero, suc, ◌+◌, ◌^◌, ◌<◌, ◌≡◌, refl, List, [], Bool, true, false, ltb, get_or, drop}
 use Rattle.std.proofs.Common.{sym, ap, ◌∙◌, arith, leb-true, ltb-true, ltb-false, lt-ltb}
 use Rattle.std.proofs.Math.Path.{subst⁻¹}
 use Rattle.std.proofs.lemmas.Bool.{le-ltb}
@@ -134,7 +134,7 @@ taking_others rules = record { table = others sublayers_reserved timing_index (o
 pub unit_other : (rules : Rules) (u : List ℕ) → ReadingSays Another (read_unit_under (taking_id rules) u)
 unit_other rules =
     unit_says Another (read_rbsp_under (taking_id rules)) (others unit_too_short rbsp_too_long (omega arith))
-    (rbsp_says (taking_id rules) (taking_others rules) (others stop_bit_missing alignment_bit_one (omega arith)))
+    (rbsp_says (taking_id rules) (taking_others rules) (record { is = λ q. omega (arith, q) }) (others stop_bit_missing alignment_bit_one (omega arith)))
 
 -- ── What is accepted and well formed ──────────────────────────────────
 positive : (n : ℕ) → (n ≡ 0 → ⊥) → 0 < n

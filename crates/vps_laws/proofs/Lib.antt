@@ -8,6 +8,7 @@ pub mod Claims
 pub mod Codes
 pub mod Coherence
 pub mod CoherenceThen
+pub mod CutCodes
 pub mod Heads
 pub mod IdRule
 pub mod Indices

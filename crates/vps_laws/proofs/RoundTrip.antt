@@ -1,15 +1,15 @@
 -- What was read can be written, where each late field stands in the record at the place it is looked for.
-use Rattle.std.specs.Prelude.{ℕ, ◌+◌, ◌*◌, ◌<◌, ◌≡◌, List, ◌++◌, length}
+use Rattle.std.specs.Prelude.{ℕ, ◌≡◌, List, ◌++◌}
 use Rattle.vps_definition.specs.Syntax.{Syntax, ◌>>=◌, Token, numbers, run, skim, look}
 use Rattle.vps_definition.specs.Syntax.Outcome.{accepted}
 use Rattle.vps_laws.specs.Inversion.{run_reads, writes_emit}
 use Rattle.vps_laws.specs.RoundTrip.{Coherent, reads_writes, Emits, reads_coherent, reads_skim, reads_look}
 
--- what was read before the bytes end is written from the numbers kept, in as many bits
-pub run_emit : {A : Type 0} {a : A} {t : List Token} {next : ℕ} (m : Syntax A) (s : List ℕ) (at : ℕ) → run m s at ≡ accepted a t next → next < 8 * length s
+-- what was read is written from the numbers kept, in as many bits
+pub run_emit : {A : Type 0} {a : A} {t : List Token} {next : ℕ} (m : Syntax A) (s : List ℕ) (at : ℕ) → run m s at ≡ accepted a t next
     → (r y : List ℕ) → Coherent m s at r (numbers t ++ y) → Emits m at a t next r y
-run_emit m s at e f r y h =
-    let W = reads_writes (run_reads m s at e) f r y h in
+run_emit m s at e r y h =
+    let W = reads_writes (run_reads m s at e) r y h in
     record { bits = W.bits; emits = writes_emit W.writes; reaches = W.reaches }
 
 pub coherent_bind : {A B : Type 0} {a : A} {t : List Token} {next : ℕ} (m : Syntax A) (f : A → Syntax B) (s : List ℕ) (at : ℕ) (r y : List ℕ) → run m s at ≡ accepted a t next

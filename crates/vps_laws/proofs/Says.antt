@@ -7,7 +7,7 @@ use mathlib.Core.List.{List, []}
 use Rattle.std.proofs.Math.Bool.{true, false}
 use Rattle.refusals.specs.Answer.{Answer}
 use Rattle.refusals.specs.Answer.Answer.{success, refusal}
-use Rattle.refusals.specs.Number.{sublayers_reserved, layer_ids_not_rising, no_direct_reference, mode_reserved, no_output_layer, ptls_over_sets, ptl_max_tid, ptl_alignment, ptl_index, dpb_slots, dpb_index, timing_zero, timing_index, stop_bit_missing, alignment_bit_one, id_zero}
+use Rattle.refusals.specs.Number.{sublayers_reserved, layer_ids_not_rising, no_direct_reference, mode_reserved, no_output_layer, ptls_over_sets, ptl_max_tid, ptl_alignment, ptl_index, dpb_slots, dpb_index, timing_zero, timing_index, stop_bit_missing, alignment_bit_one, id_zero, code_past_end}
 use Rattle.bits.specs.Bits.{field_at, to_boundary}
 use Rattle.bits.specs.Code.{Taken, code_at}
 use Rattle.bits.specs.Code as Code
@@ -199,5 +199,5 @@ module _ (ok : ℕ → Type 0) (codes : List ℕ → ℕ → Taken) (C : (s : Li
           last (record_of general t (bits_at s at n)) (trailing_at s (at + n)) (trailing_says ok S s (at + n))
       go (refused k t) h = h
 
-pub rbsp_says : {ok : ℕ → Type 0} (rules : Rules) → TableSaid ok rules → Among ok stop_bit_missing alignment_bit_one → (s : List ℕ) → ReadingSays ok (read_rbsp_under rules s)
-rbsp_says {ok} rules T S s = subst⁻¹ (λ (R : Reading). ReadingSays ok R) (rbsp_with_lem rules s) (with_says ok code_at (code_says ok (T.table.each _ refl refl)) rules T S s)
+pub rbsp_says : {ok : ℕ → Type 0} (rules : Rules) → TableSaid ok rules → Said ok code_past_end → Among ok stop_bit_missing alignment_bit_one → (s : List ℕ) → ReadingSays ok (read_rbsp_under rules s)
+rbsp_says {ok} rules T P S s = subst⁻¹ (λ (R : Reading). ReadingSays ok R) (rbsp_with_lem rules s) (with_says ok code_at (code_says ok (T.table.each _ refl refl) P) rules T S s)

@@ -33,7 +33,7 @@ rbsp_used rules s s' r n R z h =
       general = g;
       tokens = P.tokens;
       behind = at;
-      reads = run_agree (vps_under rules) s 0 P.reads (omega arith) s' (λ j l. h j (omega arith)) (omega arith);
+      reads = run_agree (vps_under rules) s 0 P.reads s' (λ j l. h j (omega arith)) (omega arith);
       is = P.is ∙ ap (record_of g P.tokens) (ap (bits_at s at) k₁ ∙ no_bits s s' at ∙ ap (bits_at s' at) (sym k₂));
       ends = subst⁻¹ (λ (k : ℕ). Trails s' (at + k) n) k₂ (trails_agree s s' (at + 0) n T h (omega arith));
     })

@@ -1,5 +1,5 @@
 -- How long a record can be: a coded number takes at least one bit of its own, and the others are few.
-use Rattle.std.specs.Prelude.{ℕ, zero, suc, ◌+◌, ◌*◌, ◌-◌, ◌≤◌, ◌<◌, ◌≡◌, refl, List, [], ◌∷◌, Bool, true, false, leb, eqb, length}
+use Rattle.std.specs.Prelude.{ℕ, zero, suc, ◌+◌, ◌*◌, ◌-◌, ◌≤◌, ◌≡◌, refl, List, [], ◌∷◌, Bool, true, false, leb, eqb, length}
 use Rattle.std.proofs.Common.{ap, ◌∙◌, arith, leb-true, le-leb, length-append}
 use Rattle.bits.specs.Bits.{field_at, to_boundary}
 use Rattle.bits.specs.Code.{code_at}
@@ -17,74 +17,74 @@ use Rattle.vps_laws.specs.Inversion.{not_accepted, keeping_accepted, guard_accep
 use Rattle.vps_laws.specs.Reading.{run_grows}
 use Rattle.vps_laws.specs.Accepted.{record_parts}
 
--- where a reading ends among the bytes, the tokens kept are at most the bits taken and c more; each is a number of the record
+-- the tokens kept are at most the bits taken and c more; each is a number of the record
 pub record Costs {A : Type 0} (c : ℕ) (m : Syntax A) : Type 0 where
-  pub holds : {a : A} {t : List Token} {next : ℕ} (s : List ℕ) (at : ℕ) → run m s at ≡ accepted a t next → next < 8 * length s → length t + at ≤ next + c
+  pub holds : {a : A} {t : List Token} {next : ℕ} (s : List ℕ) (at : ℕ) → run m s at ≡ accepted a t next → length t + at ≤ next + c
 
 -- ── The steps of a table ──────────────────────────────────────────────
 pub costs_so : {A : Type 0} {b c : ℕ} {m : Syntax A} → Costs b m → b ≤ c → Costs c m
-costs_so M l = record { holds = λ s at e i. omega (arith, M.holds s at e i) }
+costs_so M l = record { holds = λ s at e. omega (arith, M.holds s at e) }
 
 pub costs_field : {A : Type 0} {c w plus : ℕ} {k : ℕ → Syntax A} → leb 1 w ≡ true → ((v : ℕ) → Costs c (k v)) → Costs c (field w plus k)
 unfolding run
 costs_field {w = w} {plus = plus} {k = k} l K = record {
-  holds = λ s at e i.
+  holds = λ s at e.
       let v : ℕ = field_at s at w + plus in
       let E = keeping_accepted (number v) (run (k v) s (at + w)) e in
-      rw E.all (omega (arith, leb-true 1 w l, (K v).holds s (at + w) E.inner i));
+      rw E.all (omega (arith, leb-true 1 w l, (K v).holds s (at + w) E.inner));
 }
 
 costs_code : {A : Type 0} {c plus : ℕ} {k : ℕ → Syntax A} → ((v : ℕ) → Costs c (k v)) → Costs c (code plus k)
 unfolding run
 costs_code {plus = plus} {k = k} K = record {
-  holds = λ s at e i.
+  holds = λ s at e.
       let C = code_accepted (code_at s at) (λ v next. keeping (number (v + plus)) (run (k (v + plus)) s next)) e in
       let v : ℕ = C.value + plus in
       let E = keeping_accepted (number v) (run (k v) s C.behind) C.inner in
       let g = run_grows (k v) s C.behind E.inner in
-      let b = (code_whole s at C.value C.behind C.is (omega arith)).behind in
-      rw E.all (omega (arith, code_length C.value, (K v).holds s C.behind E.inner i));
+      let b = (code_whole s at C.value C.behind C.is).behind in
+      rw E.all (omega (arith, code_length C.value, (K v).holds s C.behind E.inner));
 }
 
 pub costs_late : {A : Type 0} {c w : ℕ} {find : List ℕ → List ℕ → ℕ} {k : ℕ → Syntax A} → ((v : ℕ) → Costs c (k v)) → Costs c (late w find k)
 unfolding run
-costs_late {w = w} K = record { holds = λ s at e i. omega (arith, (K (field_at s at w)).holds s (at + w) e i) }
+costs_late {w = w} K = record { holds = λ s at e. omega (arith, (K (field_at s at w)).holds s (at + w) e) }
 
 pub costs_keep : {A : Type 0} {c v : ℕ} {m : Syntax A} → leb 1 c ≡ true → Costs (c - 1) m → Costs c (keep v m)
 unfolding run
 costs_keep {c = c} {v = v} {m = m} l M = record {
-  holds = λ s at e i. let E = keeping_accepted (number v) (run m s at) e in rw E.all (omega (arith, leb-true 1 c l, M.holds s at E.inner i));
+  holds = λ s at e. let E = keeping_accepted (number v) (run m s at) e in rw E.all (omega (arith, leb-true 1 c l, M.holds s at E.inner));
 }
 
 pub costs_mark : {A : Type 0} {c : ℕ} {m : Syntax A} → leb 1 c ≡ true → Costs (c - 1) m → Costs c (mark m)
 unfolding run
 costs_mark {c = c} {m = m} l M = record {
-  holds = λ s at e i. let E = keeping_accepted section (run m s at) e in rw E.all (omega (arith, leb-true 1 c l, M.holds s at E.inner i));
+  holds = λ s at e. let E = keeping_accepted section (run m s at) e in rw E.all (omega (arith, leb-true 1 c l, M.holds s at E.inner));
 }
 
 costs_align : {A : Type 0} {c : ℕ} (n : ℕ) {m : Syntax A} → Costs c m → Costs c (align n m)
 unfolding run
-costs_align zero M = record { holds = λ s at e i. omega (arith, M.holds s (at + to_boundary at) e i) }
+costs_align zero M = record { holds = λ s at e. omega (arith, M.holds s (at + to_boundary at) e) }
 costs_align (suc n) {m} M = record {
-  holds = λ s at e i.
-      omega (arith, M.holds s (at + to_boundary at) (guard_accepted (eqb (field_at s at (to_boundary at)) 0) (suc n) (run m s (at + to_boundary at)) e).1 i);
+  holds = λ s at e.
+      omega (arith, M.holds s (at + to_boundary at) (guard_accepted (eqb (field_at s at (to_boundary at)) 0) (suc n) (run m s (at + to_boundary at)) e).1);
 }
 
 pub costs_test : {A : Type 0} {c : ℕ} (b : Bool) {m n : Syntax A} → Costs c m → Costs c n → Costs c (test b m n)
 unfolding run
-costs_test true M N = record { holds = λ s at e i. M.holds s at e i }
-costs_test false M N = record { holds = λ s at e i. N.holds s at e i }
+costs_test true M N = record { holds = λ s at e. M.holds s at e }
+costs_test false M N = record { holds = λ s at e. N.holds s at e }
 
 costs_refuse : {A : Type 0} {c n : ℕ} → Costs {A = A} c (refuse n)
 unfolding run
-costs_refuse = record { holds = λ s at e i. not_accepted e }
+costs_refuse = record { holds = λ s at e. not_accepted e }
 
 pub done_read : {A : Type 0} {a b : A} {t : List Token} {at next : ℕ} → accepted a [] at ≡ accepted b t next → (a ≡ b) × (t ≡ []) × (at ≡ next)
 done_read e = (cc, cc, cc)
 
 pub costs_done : {A : Type 0} {c : ℕ} {a : A} → Costs c (done a)
 unfolding run
-costs_done = record { holds = λ s at e i. let E = done_read e in rw E.1 (omega (arith, E.2)) }
+costs_done = record { holds = λ s at e. let E = done_read e in rw E.1 (omega (arith, E.2)) }
 
 -- ── The words of a table ──────────────────────────────────────────────
 -- a coded number costs nothing

@@ -32,6 +32,7 @@ pub mod LongerExtension
 pub mod AnyExtension
 pub mod BeforeCases
 pub mod Codes
+pub mod CutCodes
 pub mod Says
 pub mod Order
 pub mod Longest

@@ -1,5 +1,5 @@
 -- Laws of reading, by induction over a reading that is accepted.
-use Rattle.std.specs.Prelude.{ℕ, ◌+◌, ◌*◌, ◌≤◌, ◌<◌, ◌≡◌, refl, List, [], ◌∷◌, ◌++◌, length}
+use Rattle.std.specs.Prelude.{ℕ, ◌+◌, ◌*◌, ◌≤◌, ◌≡◌, refl, List, [], ◌∷◌, ◌++◌, length}
 use Rattle.std.proofs.Common.{sym, ap, ◌∙◌, arith}
 use Rattle.std.proofs.Math.Path.{subst⁻¹}
 use Rattle.bits.specs.Bits.{to_boundary}
@@ -29,29 +29,29 @@ pub run_grows : {A : Type 0} {a : A} {t : List Token} {next : ℕ} (m : Syntax A
 run_grows m s at e = reads_grows (run_reads m s at e)
 
 -- ── Only the bits before its end count ────────────────────────────────
-reads_agree : {A : Type 0} {m : Syntax A} {s : List ℕ} {at : ℕ} {a : A} {t : List Token} {next : ℕ} → Reads m s at a t next → next < 8 * length s
+reads_agree : {A : Type 0} {m : Syntax A} {s : List ℕ} {at : ℕ} {a : A} {t : List Token} {next : ℕ} → Reads m s at a t next
     → (s' : List ℕ) → Agree s s' next → next ≤ 8 * length s' → Reads m s' at a t next
-reads_agree (read_field {w} {plus} {s} {at} {next} R) f s' h g =
-    read_field_as (ap (λ (n : ℕ). n + plus) (sym (field_agree s s' at w next h (reads_grows R)))) (reads_agree R f s' h g)
-reads_agree (read_code {s} {at} {v} {behind} {next} e R) f s' h g =
+reads_agree (read_field {w} {plus} {s} {at} {next} R) s' h g =
+    read_field_as (ap (λ (n : ℕ). n + plus) (sym (field_agree s s' at w next h (reads_grows R)))) (reads_agree R s' h g)
+reads_agree (read_code {s} {at} {v} {behind} {next} e R) s' h g =
     let l = reads_grows R in
-    let W : Whole s at v behind = code_whole s at v behind e (omega arith) in
+    let W : Whole s at v behind = code_whole s at v behind e in
     let b = W.behind in
     let i : code_at s' at ≡ taken v (at + length (code_of v)) = code_bits s' at v W.small (omega arith) (bits_agree s s' at next (code_of v) h (omega arith) W.stands) in
-    read_code (i ∙ ap (taken v) (sym b)) (reads_agree R f s' h g)
-reads_agree (read_late {w} {s} {at} {next} R) f s' h g = read_late_as (sym (field_agree s s' at w next h (reads_grows R))) (reads_agree R f s' h g)
-reads_agree (read_keep R) f s' h g = read_keep (reads_agree R f s' h g)
-reads_agree (read_mark R) f s' h g = read_mark (reads_agree R f s' h g)
-reads_agree (pass_align R) f s' h g = pass_align (reads_agree R f s' h g)
-reads_agree (read_align {s} {at} {next} z R) f s' h g = read_align (sym (field_agree s s' at (to_boundary at) next h (reads_grows R)) ∙ z) (reads_agree R f s' h g)
-reads_agree (read_first R) f s' h g = read_first (reads_agree R f s' h g)
-reads_agree (read_second R) f s' h g = read_second (reads_agree R f s' h g)
-reads_agree read_done f s' h g = read_done
+    read_code (i ∙ ap (taken v) (sym b)) (reads_agree R s' h g)
+reads_agree (read_late {w} {s} {at} {next} R) s' h g = read_late_as (sym (field_agree s s' at w next h (reads_grows R))) (reads_agree R s' h g)
+reads_agree (read_keep R) s' h g = read_keep (reads_agree R s' h g)
+reads_agree (read_mark R) s' h g = read_mark (reads_agree R s' h g)
+reads_agree (pass_align R) s' h g = pass_align (reads_agree R s' h g)
+reads_agree (read_align {s} {at} {next} z R) s' h g = read_align (sym (field_agree s s' at (to_boundary at) next h (reads_grows R)) ∙ z) (reads_agree R s' h g)
+reads_agree (read_first R) s' h g = read_first (reads_agree R s' h g)
+reads_agree (read_second R) s' h g = read_second (reads_agree R s' h g)
+reads_agree read_done s' h g = read_done
 
--- a reading that ends before the bytes do goes by the bits before its end alone
-pub run_agree : {A : Type 0} {a : A} {t : List Token} {next : ℕ} (m : Syntax A) (s : List ℕ) (at : ℕ) → run m s at ≡ accepted a t next → next < 8 * length s
+-- a reading goes by the bits before its end alone
+pub run_agree : {A : Type 0} {a : A} {t : List Token} {next : ℕ} (m : Syntax A) (s : List ℕ) (at : ℕ) → run m s at ≡ accepted a t next
     → (s' : List ℕ) → Agree s s' next → next ≤ 8 * length s' → run m s' at ≡ accepted a t next
-run_agree m s at e f s' h g = reads_run (reads_agree (run_reads m s at e) f s' h g)
+run_agree m s at e s' h g = reads_run (reads_agree (run_reads m s at e) s' h g)
 
 -- ── The bits taken ────────────────────────────────────────────────────
 -- of each element of a list

@@ -1,5 +1,5 @@
 -- What was read can be written, where each late field stands in the record at the place it is looked for.
-use Rattle.std.specs.Prelude.{ℕ, ◌+◌, ◌*◌, ◌-◌, ◌<◌, ◌≡◌, refl, List, [], ◌++◌, true, false, length, drop, replicate}
+use Rattle.std.specs.Prelude.{ℕ, ◌+◌, ◌-◌, ◌≡◌, refl, List, [], ◌++◌, true, false, length, drop, replicate}
 use Rattle.std.proofs.Common.{sym, ap, ◌∙◌, add-zero, arith, length-append}
 use Rattle.std.proofs.Math.Path.{subst⁻¹}
 use Rattle.std.proofs.lemmas.List.{length-replicate}
@@ -14,7 +14,6 @@ use Rattle.vps_definition.specs.Syntax.Written.{wrote}
 use Rattle.vps_laws.specs.Inversion.{Reads, Writes, emit_writes, write_late_as}
 use Rattle.vps_laws.specs.Inversion.Reads.{read_field, read_code, read_late, read_keep, read_mark, pass_align, read_align, read_first, read_second, read_done}
 use Rattle.vps_laws.specs.Inversion.Writes.{write_field, write_code, write_late, write_keep, write_mark, write_align, write_first, write_second, write_done}
-use Rattle.vps_laws.specs.Reading.{reads_grows}
 
 -- along a reading, `find` gives each late field its value: r is the whole record, x its rest from here on
 unfoldable pub Coherent : {A : Type 0} → Syntax A → List ℕ → ℕ → List ℕ → List ℕ → Type 0
@@ -46,33 +45,32 @@ step : {A : Type 0} {m n : Syntax A} {at behind : ℕ} {a : A} {t u : List Token
     → Rewrites n behind a u next r y → Rewrites m at a t next r y
 step c k e I = record { bits = c ++ I.bits; writes = k I.bits I.writes; reaches = omega (arith, length-append c I.bits, I.reaches) }
 
-pub reads_writes : {A : Type 0} {m : Syntax A} {s : List ℕ} {at : ℕ} {a : A} {t : List Token} {next : ℕ} → Reads m s at a t next → next < 8 * length s
+pub reads_writes : {A : Type 0} {m : Syntax A} {s : List ℕ} {at : ℕ} {a : A} {t : List Token} {next : ℕ} → Reads m s at a t next
     → (r y : List ℕ) → Coherent m s at r (numbers t ++ y) → Rewrites m at a t next r y
 unfolding Coherent numbers
-reads_writes (read_field {w} {plus} {s} {at} R) f r y h =
+reads_writes (read_field {w} {plus} {s} {at} R) r y h =
     let v : ℕ = field_at s at w + plus in
     let l = field_lt s at w in
-    step (bits_of w (v - plus)) (λ b W. write_field {v = v} (omega arith) (omega arith) W) (ap (λ (n : ℕ). at + n) (bits_length w (v - plus))) (reads_writes R f r y h)
-reads_writes (read_code {plus} {k} {s} {at} {v} {behind} {a} {t} {next} e R) f r y h =
-    let l = reads_grows R in
-    let W : Whole s at v behind = code_whole s at v behind e (omega arith) in
+    step (bits_of w (v - plus)) (λ b W. write_field {v = v} (omega arith) (omega arith) W) (ap (λ (n : ℕ). at + n) (bits_length w (v - plus))) (reads_writes R r y h)
+reads_writes (read_code {plus} {k} {s} {at} {v} {behind} {a} {t} {next} e R) r y h =
+    let W : Whole s at v behind = code_whole s at v behind e in
     let z : v + plus - plus ≡ v = omega arith in
     let p : at + length (code_of (v + plus - plus)) ≡ behind = ap (λ (n : ℕ). at + length (code_of n)) z ∙ sym W.behind in
     step (code_of (v + plus - plus))
     (λ b I. write_code {v = v + plus} (omega arith) (omega (arith, W.small)) (subst⁻¹ (λ (n : ℕ). Writes (k (v + plus)) r (numbers t ++ y) n a t y b) p I)) p
-    (reads_writes R f r y (rw (e, Coherent) at h))
-reads_writes (read_late {w} {s} {at} R) f r y h =
+    (reads_writes R r y (rw (e, Coherent) at h))
+reads_writes (read_late {w} {s} {at} R) r y h =
     let v : ℕ = field_at s at w in
-    step (bits_of w v) (λ b W. write_late_as h.0 (field_lt s at w) W) (ap (λ (n : ℕ). at + n) (bits_length w v)) (reads_writes R f r y h.1)
-reads_writes (read_keep {at} R) f r y h = step [] (λ b W. write_keep W) (add-zero at) (reads_writes R f r y h)
-reads_writes (read_mark {at} R) f r y h = step [] (λ b W. write_mark W) (add-zero at) (reads_writes R f r y h)
-reads_writes (pass_align {at} R) f r y h =
-    step (replicate (to_boundary at) 0) (λ b W. write_align W) (ap (λ (n : ℕ). at + n) (length-replicate (to_boundary at) 0)) (reads_writes R f r y h)
-reads_writes (read_align {at} z R) f r y h =
-    step (replicate (to_boundary at) 0) (λ b W. write_align W) (ap (λ (n : ℕ). at + n) (length-replicate (to_boundary at) 0)) (reads_writes R f r y h)
-reads_writes (read_first {at} R) f r y h = step [] (λ b W. write_first W) (add-zero at) (reads_writes R f r y h)
-reads_writes (read_second {at} R) f r y h = step [] (λ b W. write_second W) (add-zero at) (reads_writes R f r y h)
-reads_writes (read_done {at}) f r y h = record { bits = []; writes = write_done; reaches = add-zero at }
+    step (bits_of w v) (λ b W. write_late_as h.0 (field_lt s at w) W) (ap (λ (n : ℕ). at + n) (bits_length w v)) (reads_writes R r y h.1)
+reads_writes (read_keep {at} R) r y h = step [] (λ b W. write_keep W) (add-zero at) (reads_writes R r y h)
+reads_writes (read_mark {at} R) r y h = step [] (λ b W. write_mark W) (add-zero at) (reads_writes R r y h)
+reads_writes (pass_align {at} R) r y h =
+    step (replicate (to_boundary at) 0) (λ b W. write_align W) (ap (λ (n : ℕ). at + n) (length-replicate (to_boundary at) 0)) (reads_writes R r y h)
+reads_writes (read_align {at} z R) r y h =
+    step (replicate (to_boundary at) 0) (λ b W. write_align W) (ap (λ (n : ℕ). at + n) (length-replicate (to_boundary at) 0)) (reads_writes R r y h)
+reads_writes (read_first {at} R) r y h = step [] (λ b W. write_first W) (add-zero at) (reads_writes R r y h)
+reads_writes (read_second {at} R) r y h = step [] (λ b W. write_second W) (add-zero at) (reads_writes R r y h)
+reads_writes (read_done {at}) r y h = record { bits = []; writes = write_done; reaches = add-zero at }
 
 pub record Emits {A : Type 0} (m : Syntax A) (at : ℕ) (a : A) (t : List Token) (next : ℕ) (r y : List ℕ) : Type 0 where
   pub bits : List ℕ

@@ -7,7 +7,7 @@ use Rattle.std.proofs.Math.Bool.{true, false}
 use Rattle.std.proofs.Common.{arith, leb-true, le-leb}
 use Rattle.refusals.specs.Answer.{Answer}
 use Rattle.refusals.specs.Answer.Answer.{success, refusal}
-use Rattle.refusals.specs.Number.{unit_too_short, rbsp_too_long, sublayers_reserved, ptl_alignment, code_too_long, timing_index, stop_bit_missing, alignment_bit_one, id_zero}
+use Rattle.refusals.specs.Number.{unit_too_short, rbsp_too_long, sublayers_reserved, ptl_alignment, code_too_long, timing_index, stop_bit_missing, alignment_bit_one, id_zero, code_past_end}
 use Rattle.stuffing.specs.Stuffing.{unstuff}
 use Rattle.bits.specs.Bits.{bit_at, field_at, to_boundary}
 use Rattle.bits.specs.Code.{Taken, zeros_at, code_behind, code_at}
@@ -269,9 +269,9 @@ trailing_says ok S s at =
     go false x y h g = g
 
 -- by the definition's rule of codes
-pub code_says : (ok : ℕ → Type 0) → Said ok code_too_long → (s : List ℕ) (at : ℕ) → TakenSays ok (code_at s at)
+pub code_says : (ok : ℕ → Type 0) → Said ok code_too_long → Said ok code_past_end → (s : List ℕ) (at : ℕ) → TakenSays ok (code_at s at)
 unfolding code_at code_behind
-code_says ok e s at = go (ltb (zeros_at s at 32) 32) _ _ (go (ltb (at + zeros_at s at 32) (8 * length s)) _ _ tt tt) e
+code_says ok e f s at = go (ltb (zeros_at s at 32) 32) _ _ (go (leb (at + zeros_at s at 32 + 1 + zeros_at s at 32) (8 * length s)) _ _ tt f) e
   where
     go : (b : Bool) (x y : Taken) → TakenSays ok x → TakenSays ok y → TakenSays ok (cond b x y)
     go true x y h g = h

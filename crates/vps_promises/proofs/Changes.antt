@@ -4,7 +4,7 @@ use Rattle.std.specs.Prelude.{ℕ, ◌+◌, ◌/◌, ◌≤◌, ◌<◌, ◌≡�
 use Rattle.std.proofs.Common.{sym, ap, ◌∙◌, arith}
 use Rattle.std.proofs.lemmas.List.Edits.{sets}
 use Rattle.refusals.specs.Answer.Answer.{success, refusal}
-use Rattle.refusals.specs.Number.{work_too_short, sublayers_reserved, stop_bit_zero, not_well_formed, id_zero}
+use Rattle.refusals.specs.Number.{work_too_short, sublayers_reserved, stop_bit_zero, not_well_formed, id_zero, code_past_end}
 use Rattle.lists.specs.Stored.{overlaid}
 use Rattle.stuffing.specs.Stuffing.{unstuff}
 use Rattle.bits.specs.Bits.{field_at}
@@ -17,10 +17,11 @@ use Rattle.vps_definition.specs.Writing.{all_flags, write_record_under, write_re
 use Rattle.vps_laws.specs.Units.{not_accepts}
 use Rattle.vps_laws.specs.Claims.{refused_ill_formed, well_formed_written}
 use Rattle.vps_laws.specs.LongerExtension.{unit_with_shorter_extension}
+use Rattle.vps_laws.specs.CutCodes.{unit_with_cut_codes}
 use Rattle.vps_laws.proofs.Changes as Changed
 use Rattle.vps_reader.specs.Parse.{parse_number}
 use Rattle.vps_writer.specs.Write.{written_answer}
-use Rattle.vps_promises.specs.Calls.{ReadCall, said, ReadRoom, Reads, Refuses, Early, WriteCall, WriteRoom, Puts, not_success, accepted_reads, refused_refuses, refuses_refused, refused_leaves, late_fills_work, puts_written, written_puts, refused_leaves_output, ill_formed_refuses}
+use Rattle.vps_promises.specs.Calls.{Unpacked, leaves_unpacked, ReadCall, said, ReadRoom, Reads, Refuses, Early, WriteCall, WriteRoom, Puts, not_success, accepted_reads, refused_refuses, refuses_refused, refused_leaves, puts_written, written_puts, refused_leaves_output, ill_formed_refuses}
 use Rattle.vps_promises.proofs.Calls.{reads_accepted}
 
 -- ── Extension bits run up to the last one-bit ─────────────────────────
@@ -54,16 +55,8 @@ id_zero_is_refused {u} c l h k z w =
     refused_refuses c (record { for_rbsp = w; for_record = λ r n e. not_accepts (sym R ∙ e) }) R
 
 -- Refused with 34 as with 5, the work buffer has room for the RBSP and begins with it, and is otherwise as before; and the record is as before.
-abbrev pub Unpacked : {u : List ℕ} → ReadCall u → Type 0
-Unpacked {u} c = (length (unstuff (drop 2 u)) ≤ length c.work) × (c.work_after ≡ overlaid (unstuff (drop 2 u)) c.work) × (c.rec_after ≡ c.rec)
-
 pub id_zero_leaves_work_as_5 : {u : List ℕ} (c : ReadCall u) → (Refuses c id_zero → Unpacked c) × (Refuses c sublayers_reserved → Unpacked c)
-id_zero_leaves_work_as_5 {u} c = (λ N. unpacked N (omega arith), λ N. unpacked N (omega arith))
-  where
-    unpacked : {k : ℕ} → Refuses c k → work_too_short < k → Unpacked c
-    unpacked {k} N l =
-        let W = late_fills_work c (λ e. omega (arith, e.1, N.numbered, l)) in
-        (W.0, W.1, refused_leaves c (λ m n e. let z : said c ≡ 0 = ap parse_number e in omega (arith, z, N.numbered, N.some)))
+id_zero_leaves_work_as_5 c = (λ N. leaves_unpacked c N (omega arith), λ N. leaves_unpacked c N (omega arith))
 
 -- Every other unit has the answer of before.
 pub units_with_an_id_stay : {u : List ℕ} (c : ReadCall u) → ReadRoom c → 0 < field_at (unstuff (drop 2 u)) 0 4 → (k : ℕ) → Refuses c k ↔ (read_unit_under (taking_id today) u ≡ refuses k)
@@ -88,3 +81,29 @@ pub records_with_an_id_stay : {r : List ℕ} (w : WriteCall r) → WriteRoom w �
 records_with_an_id_stay {r} w room l u =
     let S = Changed.records_with_an_id_stay today r l in
     (λ P. sym S ∙ puts_written w P, λ e. written_puts w room (S ∙ e))
+
+-- ── Codes that the end cuts are refused there ─────────────────────────
+-- A unit is read exactly if it was before, with the same record and bits used.
+pub cut_codes_were_refused : {u : List ℕ} (c : ReadCall u) → ReadRoom c → (r : List ℕ) (n : ℕ) → Reads c r n ↔ (unit_with_cut_codes today u ≡ accepts r n)
+cut_codes_were_refused {u} c room r n =
+    let A = Changed.cut_codes_were_refused today u r n in
+    (λ R. A.0 (reads_accepted c R), λ e. accepted_reads c room (A.1 e))
+
+-- Where the answer is another, the unit is refused with 35, and was refused before.
+pub answers_moved_to_35 : {u : List ℕ} (c : ReadCall u) → ReadRoom c → (read_unit u ≡ unit_with_cut_codes today u → ⊥) → Refuses c code_past_end × ((k : ℕ) × (unit_with_cut_codes today u ≡ refuses k))
+answers_moved_to_35 {u} c room h = let M = Changed.answers_moved_to_35 today u h in (refused_refuses c room M.0, M.1)
+
+-- And where it is 35, it was a refusal with another number.
+pub cut_was_not_35 : {u : List ℕ} (c : ReadCall u) → ReadRoom c → Refuses c code_past_end → (k : ℕ) × ((unit_with_cut_codes today u ≡ refuses k) × (k ≡ code_past_end → ⊥))
+cut_was_not_35 {u} c room N =
+    let e = refuses_refused c room N in
+    let M = Changed.answers_moved_to_35 today u (λ q. Changed.cut_was_not_35 today u (sym q ∙ e)) in
+    (M.1.0, (M.1.1, λ z. Changed.cut_was_not_35 today u (M.1.1 ∙ ap refuses z)))
+
+-- A unit that is refused with another number was refused with the same.
+pub other_refusals_stay : {u : List ℕ} (c : ReadCall u) → ReadRoom c → (k : ℕ) → (k ≡ code_past_end → ⊥) → Refuses c k → unit_with_cut_codes today u ≡ refuses k
+other_refusals_stay {u} c room k h N = Changed.other_refusals_stay today u k h (refuses_refused c room N)
+
+-- Refused with 35 as with 5 and 34, the work buffer begins with the RBSP and is otherwise as before; and the record is as before.
+pub cut_leaves_work_as_5 : {u : List ℕ} (c : ReadCall u) → Refuses c code_past_end → Unpacked c
+cut_leaves_work_as_5 c N = leaves_unpacked c N (omega arith)

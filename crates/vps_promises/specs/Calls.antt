@@ -167,6 +167,7 @@ reading_late : (s : List ℕ) → ReadingSays Late (read_rbsp s)
 reading_late s =
     rbsp_says today
     (record { table = lates sublayers_reserved timing_index (omega arith) (omega arith); id = λ e. record { is = record { late = omega arith; other = λ q. omega (arith, q) } } })
+    (record { is = record { late = omega arith; other = λ q. omega (arith, q) } })
     (lates stop_bit_missing alignment_bit_one (omega arith) (omega arith)) s
 
 -- what a call says and leaves, where the definition of the call is x
@@ -398,6 +399,16 @@ late_fills_work {u} c h = go (way u c.work c.rec)
     go (early k l g q) = absurd (number q (l.0, omega (arith, l.1)))
     go (narrow l q) = absurd (number q (omega arith, omega arith))
     go (whole l g q) = (l, work_is c q)
+
+-- refused with a number over 4, the work buffer has room for the RBSP and begins with it, and is otherwise as before; and the record
+-- is as before
+abbrev pub Unpacked : {u : List ℕ} → ReadCall u → Type 0
+Unpacked {u} c = (length (unstuff (drop 2 u)) ≤ length c.work) × (c.work_after ≡ overlaid (unstuff (drop 2 u)) c.work) × (c.rec_after ≡ c.rec)
+
+pub leaves_unpacked : {u : List ℕ} (c : ReadCall u) {k : ℕ} → Refuses c k → work_too_short < k → Unpacked c
+leaves_unpacked c {k} N l =
+    let W = late_fills_work c (λ e. omega (arith, e.1, N.numbered, l)) in
+    (W.0, W.1, refused_leaves c (λ m n e. let z : said c ≡ 0 = ap parse_number e in omega (arith, z, N.numbered, N.some)))
 
 -- ── The writer and its definition ─────────────────────────────────────
 pub not_success : {A : Type 0} {k n : ℕ} → ◌≡◌ {A = Answer ℕ} (refusal k) (success n) → A

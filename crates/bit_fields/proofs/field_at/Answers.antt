@@ -24,14 +24,15 @@ returns-then-width-le8 c =
     let e : c.in-Some.rest.now ≡ drop (c.args.at / 8) c.args.bytes.now = grind (arith, common_steps) in
     c.short_field.ensures ∙ field_in_rest c.args.bytes.now c.args.at c.args.width e ∙ rw (lt-ltb c.args.width 32 (omega arith)) refl
 
-pub returns-then-skipped-w : goal.returns-then-skipped-w
-returns-then-skipped-w c =
-    let s = c.args.bytes.now in
-    let i = window_start (length s) (c.args.at / 8) in
-    c.field_in.ensures
-    ∙ rw (c.window_for-near.ensures.bits, c.window_for-near.ensures.skipped, ← c.field_width-w.ensures.0) (field_in_window s i 64 c.args.at c.field_width-w.result (omega (arith, window_start_le (length s) (c.args.at / 8))) (omega (arith, c.window_for-near.ensures.skipped)))
-
 pub returns : goal.returns
 returns c =
+    let s = c.args.bytes.now in
+    let i = window_start (length s) (c.args.at / 8) in
+    let W = c.in-Some-window_for.ensures in
+    c.field_in.ensures
+    ∙ rw (W.bits, W.before, ← c.field_width-w.ensures.0) (field_in_window s i 64 c.args.at c.field_width-w.result (omega (arith, window_start_le (length s) (c.args.at / 8))) (omega (arith, W.before)))
+
+pub returns-2 : goal.returns-2
+returns-2 c =
     c.field_in-2.ensures
     ∙ rw (c.first_bytes.ensures, ← c.field_width-w.ensures.0) (field_in_first c.behind-rest.result.now 64 (c.args.at % 8) c.field_width-w.result (omega arith) ∙ field_in_rest c.args.bytes.now c.args.at c.field_width-w.result c.behind-rest.ensures)

@@ -4,16 +4,10 @@ use Rattle.bit_reader.proofs.Steps.{code_in_window}
 use Rattle.bit_reader.proofs.Place.code.Goals as goal
 
 pub overflow_cast-code_num-2 : goal.overflow_cast-code_num-2
-overflow_cast-code_num-2 c =
-    let w = c.window_for-window.ensures in
-    record { fits = (code_in_window _ _ w.bits w.skipped c.if-skipped-gt63.false c.if-skipped-zeros.false).fits }
+overflow_cast-code_num-2 c = record { fits = (code_in_window _ _ c.in-Some.ensures c.if-skipped-gt63.false c.if-skipped-zeros.false).fits }
 
 pub overflow_sub-result : goal.overflow_sub-result
-overflow_sub-result c =
-    let w = c.window_for-window.ensures in
-    (code_in_window _ _ w.bits w.skipped c.if-skipped-gt63.false c.if-skipped-zeros.false).some
+overflow_sub-result c = (code_in_window _ _ c.in-Some.ensures c.if-skipped-gt63.false c.if-skipped-zeros.false).some
 
 pub returns : goal.returns
-returns c =
-    let w = c.window_for-window.ensures in
-    sym (code_in_window _ _ w.bits w.skipped c.if-skipped-gt63.false c.if-skipped-zeros.false).code
+returns c = sym (code_in_window _ _ c.in-Some.ensures c.if-skipped-gt63.false c.if-skipped-zeros.false).code
