@@ -34,7 +34,7 @@ pub text_output_rows : page_text output_rows ≡ bytes "  0  1 #..." ++ blanks 6
 unfolding opened page_of set_lines set_line line columns places place right_aligned decimal_in bytes reading_page unit_page printed page_text output_rows
 text_output_rows = refl
 
-pub text_damaged : page_text damaged ≡ bytes "refused 27\n"
+pub text_damaged : page_text damaged ≡ bytes "refused 35\n"
 unfolding opened decimal_in bytes reading_page unit_page refused_text printed page_text damaged
 text_damaged = refl
 
