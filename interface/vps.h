@@ -82,8 +82,10 @@ enum vps_answer {
     /* PTL: index not below PTL count */
     VPS_PTL_INDEX = 13,
 
-    /* each ue: 32 zeros */
+    /* each ue: 32 zeros inside the RBSP */
     VPS_CODE_TOO_LONG = 14,
+    /* each ue: its last bit past the RBSP; behind 14, and before the value's own limit */
+    VPS_CODE_PAST_END = 35,
 
     /* DPB: slots over M */
     VPS_DPB_SLOTS = 15,
@@ -154,10 +156,14 @@ enum vps_section_number {
  * 0           *length is the record's length and *bits_used the RBSP's bits through the trailing bits. The record stands at the
  *             beginning of record, and the RBSP at the beginning of work; what is behind each is as before.
  * 1 to 4      work, record, *length and *bits_used are as before.
- * 5 to 29, 34 the RBSP stands at the beginning of work, and what is behind it is as before; record, *length and *bits_used are as before.
+ * 5 to 29     the RBSP stands at the beginning of work, and what is behind it is as before; record, *length and *bits_used are as before.
  * 30          *length is the length that the record needs; *bits_used and record are as before; work is as for 5 to 29.
+ * 34, 35      as 5 to 29.
  *
- * 34 is a set id of 0, whatever else is in the RBSP, even if that is empty: past its end bits read 0.
+ * A field of fixed width, a flag too, is read past the RBSP's end: what is missing of it reads 0. So 34 is a set id of 0, whatever
+ * else is in the RBSP, even if that is empty. A ue code (zeros, a one, as many bits of suffix as zeros) is not: where the end cuts it,
+ * among its zeros, before its one or in its suffix, and where no bit of it is left, 35 is given. 32 zeros before the end are 14. A code
+ * whose last bit is the RBSP's last bit is whole.
  *
  * No other number is given.
  */
