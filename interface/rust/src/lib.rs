@@ -24,6 +24,8 @@
 
 mod archive;
 mod calls;
+#[cfg(test)]
+mod cut_code_tests;
 mod declared;
 #[cfg(test)]
 mod figure_tests;

@@ -45,7 +45,7 @@ pub enum Refusal {
     PtlAlignment,
     /// 13, PTL: index not below PTL count.
     PtlIndex,
-    /// 14, each ue: 32 zeros.
+    /// 14, each ue: 32 zeros inside the RBSP.
     CodeTooLong,
     /// 15, DPB: slots over M.
     DpbSlots,
@@ -90,10 +90,12 @@ pub enum Refusal {
     ItemMissing,
     /// 34, layers: vps_video_parameter_set_id 0, directly before 5.
     IdZero,
+    /// 35, each ue: its last bit past the RBSP; behind 14, and before the value's own limit.
+    CodePastEnd,
 }
 
 impl Refusal {
-    /// The refusal's number, 1 to 34.
+    /// The refusal's number, 1 to 35.
     pub fn number(self) -> u32 {
         match self {
             Refusal::UnitTooShort => 1,
@@ -130,6 +132,7 @@ impl Refusal {
             Refusal::OutputTooShort => 32,
             Refusal::ItemMissing => 33,
             Refusal::IdZero => 34,
+            Refusal::CodePastEnd => 35,
         }
     }
 
@@ -170,6 +173,7 @@ impl Refusal {
             32 => Refusal::OutputTooShort,
             33 => Refusal::ItemMissing,
             34 => Refusal::IdZero,
+            35 => Refusal::CodePastEnd,
             _ => unreachable!("no function gives {number}"),
         }
     }
@@ -210,7 +214,7 @@ mod tests {
 
     /// Every refusal, in order of its number.
     fn all() -> Vec<Refusal> {
-        (1..=34).map(|number| Refusal::of(number, 0)).collect()
+        (1..=35).map(|number| Refusal::of(number, 0)).collect()
     }
 
     #[test]
@@ -237,6 +241,7 @@ mod tests {
         assert_eq!(Refusal::RecordTooShort { needed: 38 }.to_string(), "record buffer too-short");
         assert_eq!(Refusal::ItemMissing.to_string(), "rates item missing");
         assert_eq!(Refusal::IdZero.to_string(), "layers set-id zero");
+        assert_eq!(Refusal::CodePastEnd.to_string(), "code bits missing");
     }
 
     #[test]
