@@ -1,12 +1,13 @@
 -- Codes that the end cuts: a reading beside that of the rule of before.
-use Rattle.std.specs.Prelude.{ℕ, zero, suc, ◌+◌, ◌*◌, ◌≤◌, ◌<◌, ◌≡◌, refl, List, [], Bool, true, false, cond, ltb, eqb, length, get_or}
-use Rattle.std.proofs.Common.{arith, leb-true, le-ltb}
+use Rattle.std.specs.Prelude.{ℕ, zero, suc, ◌+◌, ◌*◌, ◌-◌, ◌^◌, ◌≤◌, ◌<◌, ◌≡◌, refl, List, [], Bool, true, false, cond, ltb, leb, eqb, length, get_or}
+use Rattle.std.proofs.Common.{arith, ltb-false, leb-true, le-ltb}
+use Rattle.std.proofs.lemmas.Bool.{leb-false}
 use Rattle.std.proofs.Math.Path.{subst⁻¹}
 use Rattle.refusals.specs.Answer.{Answer}
 use Rattle.refusals.specs.Answer.Answer.{refusal}
 use Rattle.refusals.specs.Number.{unit_too_short, rbsp_too_long, sublayers_reserved, code_too_long, timing_index, stop_bit_missing, alignment_bit_one, code_past_end}
 use Rattle.bits.specs.Bits.{field_at, to_boundary}
-use Rattle.bits.specs.Code.{Taken, zeros_at, code_at}
+use Rattle.bits.specs.Code.{Taken, zeros_at, code_behind, code_at}
 use Rattle.bits.specs.Code as Code
 use Rattle.bits.specs.Reading.{trailing_at}
 use Rattle.vps_definition.specs.Rules.{Rules}
@@ -20,10 +21,46 @@ use Rattle.vps_definition.specs.Reading.{Reading, bits_at, extension_bits, ended
 use Rattle.vps_definition.specs.Reading.Reading.{refuses}
 use Rattle.vps_laws.specs.Codes.{run_with, read_rbsp_with}
 use Rattle.vps_laws.specs.Compared.{unit_both}
-use Rattle.vps_laws.specs.CutCodes.{code_behind_before, code_at_before, unit_with_cut_codes, CodeMoved, code_moved, before_grows}
-use Rattle.vps_laws.specs.CutCodes.CodeMoved.{code_same, code_cut}
+use Rattle.vps_laws.specs.CutCodes.{code_behind_before, code_at_before, unit_with_cut_codes}
 use Rattle.vps_laws.specs.Says.{Among, TableSaid, TakenSays, ReadingSays, unit_says}
 use Rattle.vps_laws.proofs.Says.{with_says}
+
+-- ── A code ────────────────────────────────────────────────────────────
+-- a code beside that of before: the same, or cut, and then its end lay at the end of the bytes or past it
+data CodeMoved (s : List ℕ) : (now before : Taken) → Type 0 where
+  code_same : (c : Taken) → CodeMoved s c c
+  code_cut : {v next : ℕ} → 8 * length s ≤ next → CodeMoved s (Code.Taken.refused code_past_end) (Code.Taken.taken v next)
+
+code_moved : (s : List ℕ) (at : ℕ) → CodeMoved s (code_at s at) (code_at_before s at)
+unfolding code_at code_behind code_at_before code_behind_before
+code_moved s at = go (ltb k 32) (leb (at + k + 1 + k) (8 * length s)) refl (ltb (at + k) (8 * length s)) refl
+  where
+    k : ℕ
+    k = zeros_at s at 32
+
+    x : Taken
+    x = Code.Taken.taken (2 ^ k - 1 + field_at s (at + k + 1) k) (at + k + 1 + k)
+
+    go : (a b : Bool) → leb (at + k + 1 + k) (8 * length s) ≡ b → (c : Bool) → ltb (at + k) (8 * length s) ≡ c
+        → CodeMoved s (cond a (cond b x (Code.Taken.refused code_past_end)) (Code.Taken.refused code_too_long)) (cond a (cond c x (Code.Taken.taken (2 ^ k - 1) (at + k + k))) (Code.Taken.refused code_too_long))
+    go false b f c g = code_same _
+    go true true f true g = code_same _
+    go true true f false g = absurd (omega (arith, leb-true (at + k + 1 + k) (8 * length s) f, ltb-false (at + k) (8 * length s) g))
+    go true false f true g = code_cut {next = at + k + 1 + k} (omega (arith, leb-false (at + k + 1 + k) (8 * length s) f))
+    go true false f false g = code_cut {next = at + k + k} (omega (arith, ltb-false (at + k) (8 * length s) g))
+
+-- the place never fell
+before_grows : (s : List ℕ) (at v next : ℕ) → code_at_before s at ≡ Code.Taken.taken v next → at ≤ next
+unfolding code_at_before code_behind_before
+before_grows s at v next e = go (ltb k 32) (ltb (at + k) (8 * length s)) e
+  where
+    k : ℕ
+    k = zeros_at s at 32
+
+    go : (a b : Bool) → cond a (cond b (Code.Taken.taken (2 ^ k - 1 + field_at s (at + k + 1) k) (at + k + 1 + k)) (Code.Taken.taken (2 ^ k - 1) (at + k + k))) (Code.Taken.refused code_too_long) ≡ Code.Taken.taken v next → at ≤ next
+    go true true h = let y : at + k + 1 + k ≡ next = cc in omega arith
+    go true false h = let y : at + k + k ≡ next = cc in omega arith
+    go false b h = absurd (let n : ◌≡◌ {A = ℕ} 0 1 = cc in omega arith)
 
 -- ── A table ───────────────────────────────────────────────────────────
 -- refused, or accepted with nothing left
