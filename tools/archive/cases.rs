@@ -58,6 +58,11 @@ pub fn with_entries(entries: usize) -> Case {
     Case::new(format!("64 layers, entries {entries}"), timed(64, entries, 4))
 }
 
+// 64 layers and so many timing entries, each with 32 schedules.
+pub fn with_schedules(entries: usize) -> Case {
+    Case::new(format!("64 layers, entries {entries} of 32 schedules"), timed(64, entries, 32))
+}
+
 // Units with so many bytes of RBSP behind the extension flag, by what these bytes are.
 pub fn long_extensions(count: usize) -> [(&'static str, Vec<u8>); 4] {
     let zeros_and = |last: u8| [vec![0; count - 1], vec![last]].concat();

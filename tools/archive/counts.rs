@@ -1,4 +1,5 @@
 // What is counted besides answers: what was set aside, and what the second judge's answers show.
+use judge::cut_rule::{Left, Name, LEFT, NAMES};
 use judge::figures::Missing;
 use std::collections::BTreeMap;
 
@@ -20,7 +21,8 @@ pub trait Counted: Copy + Ord + 'static {
 
 // What the second judge has an answer for. Set aside are units that the Rust refuses with 28 under extension flag 1, and
 // lists whose extension ends in 0; of other units with that flag both judges say the same. And units with id 0 that the Rust
-// reads past the id, and lists with id 0 that are well formed but for that. What comes before the id is counted beside it.
+// reads past the id, and lists with id 0 that are well formed but for that; and units in which the Rust reads a code that
+// the end cuts. What comes before the id or the code is counted beside it, and codes that are nearly cut.
 #[derive(Clone, Copy, PartialEq, Eq, PartialOrd, Ord)]
 pub enum Ruled {
     UnitAccepted,
@@ -35,6 +37,14 @@ pub enum Ruled {
     IdZeroTooLong,
     IdZeroWorkShort,
     IdZeroList,
+    CutCodeStopBit,
+    CutCodeRefused,
+    CutCodeIdZero,
+    CutCodeTooLong,
+    CutCodeWorkShort,
+    CodeOfZerosAtEnd,
+    CodeAtEndStopBit,
+    CodeAtEndRefused,
 }
 
 impl Counted for Ruled {
@@ -52,6 +62,14 @@ impl Counted for Ruled {
         Ruled::IdZeroTooLong,
         Ruled::IdZeroWorkShort,
         Ruled::IdZeroList,
+        Ruled::CutCodeStopBit,
+        Ruled::CutCodeRefused,
+        Ruled::CutCodeIdZero,
+        Ruled::CutCodeTooLong,
+        Ruled::CutCodeWorkShort,
+        Ruled::CodeOfZerosAtEnd,
+        Ruled::CodeAtEndStopBit,
+        Ruled::CodeAtEndRefused,
     ];
 
     // The input and the answer.
@@ -71,12 +89,42 @@ impl Counted for Ruled {
             Ruled::IdZeroTooLong => "not set aside: call for id 0 and an RBSP over 65,535 bytes | refused 3",
             Ruled::IdZeroWorkShort => "not set aside: call for id 0 with a work buffer too short | refused 4",
             Ruled::IdZeroList => "set aside: list with id 0, well formed but for that | refused 31",
+            Ruled::CutCodeStopBit => "set aside: unit with a cut code, 27 by the Rust | refused 35",
+            Ruled::CutCodeRefused => "set aside: unit with a cut code, another number by the Rust | refused 35",
+            Ruled::CutCodeIdZero => "set aside: unit with id 0 and a cut code | refused 34",
+            Ruled::CutCodeTooLong => "not set aside: call for a cut code in an RBSP over 65,535 bytes | refused 3",
+            Ruled::CutCodeWorkShort => "not set aside: call for a cut code with a work buffer too short | refused 4",
+            Ruled::CodeOfZerosAtEnd => "not set aside: unit that ends in 32 zeros for a code | as the Rust's, 14",
+            Ruled::CodeAtEndStopBit => "not set aside: unit that ends with its last code | as the Rust's, 27",
+            Ruled::CodeAtEndRefused => {
+                "not set aside: unit that ends with a code whose value is refused | as the Rust's, another number"
+            }
         }
     }
 
     // The longest units are made for the purpose.
     fn is_of_short_units(self) -> bool {
-        !matches!(self, Ruled::IdZeroTooLong)
+        !matches!(self, Ruled::IdZeroTooLong | Ruled::CutCodeTooLong)
+    }
+}
+
+// What is there of the code that the end cuts, in units that are set aside for it.
+impl Counted for Left {
+    const HEAD: &'static str = "| Cut codes, by what there is | Count |\n|---|---|";
+    const ALL: &'static [Left] = &LEFT;
+
+    fn name(self) -> &'static str {
+        self.name()
+    }
+}
+
+// Which code that is.
+impl Counted for Name {
+    const HEAD: &'static str = "| Cut codes | Count |\n|---|---|";
+    const ALL: &'static [Name] = &NAMES;
+
+    fn name(self) -> &'static str {
+        self.0
     }
 }
 

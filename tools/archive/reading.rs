@@ -1,10 +1,12 @@
-// Reading: vps_parse against the Rust, and against the second judge of extension bits and of id 0 where the Rust's answer
-// doesn't count, with the rules of this project for lengths and buffers (docs/DIFFERENCES.md).
+// Reading: vps_parse against the Rust, and against the second judge of extension bits, of id 0 and of cut codes where the
+// Rust's answer doesn't count, with the rules of this project for lengths and buffers (docs/DIFFERENCES.md).
 use crate::buffers::Guarded;
 use crate::calls;
 use crate::counts::Ruled;
 use crate::report::{shown, Answer, Report};
 use bitstream::nal::ebsp_to_rbsp;
+use judge::cut_rule::{AtEnd, CODE_PAST_END};
+use judge::extension_rule::STOP_BIT_MISSING;
 use judge::judges::{Judges, Rule};
 use judge::random::Random;
 use judge::record::Reading;
@@ -53,8 +55,13 @@ impl Judged {
         if let Some(what) = self.ruled() {
             report.ruled(what);
         }
+        if self.judges.set_aside() == Some(Rule::CutCode) {
+            self.judges.cut(unit).into_iter().for_each(|cut| report.cut(cut));
+        }
         if !self.judges.as_claimed() {
-            report.difference(|| format!("the Rust and the rules of extension bits and of id 0: {}", hex_of(unit)));
+            report.difference(|| {
+                format!("the Rust and the rules of extension bits, of id 0 and of cut codes: {}", hex_of(unit))
+            });
         }
     }
 
@@ -63,26 +70,40 @@ impl Judged {
         match (self.judges.set_aside(), self.judges.found_with_any_id()) {
             (Some(Rule::Id), Ok(_)) => Some(Ruled::IdZeroAccepted),
             (Some(Rule::Id), Err(SUBLAYERS)) => Some(Ruled::IdZeroSublayers),
+            (Some(Rule::Id), Err(CODE_PAST_END)) => Some(Ruled::CutCodeIdZero),
             (Some(Rule::Id), Err(_)) => Some(Ruled::IdZeroRefused),
+            (Some(Rule::CutCode), _) if self.refused_at_stop_bit() => Some(Ruled::CutCodeStopBit),
+            (Some(Rule::CutCode), _) => Some(Ruled::CutCodeRefused),
             (Some(Rule::Extension), _) if accepted => Some(Ruled::UnitAccepted),
             (Some(Rule::Extension), _) => Some(Ruled::UnitRefused),
             (None, _) => self.not_set_aside(),
         }
     }
 
+    fn refused_at_stop_bit(&self) -> bool {
+        self.judges.refused_by_rust() == Some(STOP_BIT_MISSING)
+    }
+
     // What a unit shows for which the Rust's answer counts.
     fn not_set_aside(&self) -> Option<Ruled> {
-        match &self.reading {
-            Reading::Refused(2) if self.judges.has_id_zero() => Some(Ruled::IdZeroOfOtherType),
+        let at_end = self.judges.code_at_end().map(|(_, at_end)| at_end);
+        match (&self.reading, at_end) {
+            (Reading::Refused(2), _) if self.judges.has_id_zero() => Some(Ruled::IdZeroOfOtherType),
+            (_, Some(AtEnd::TooLong)) => Some(Ruled::CodeOfZerosAtEnd),
+            (_, Some(AtEnd::Whole)) if self.refused_at_stop_bit() => Some(Ruled::CodeAtEndStopBit),
+            (_, Some(AtEnd::Whole)) => Some(Ruled::CodeAtEndRefused),
             _ => self.judges.extension_read().then_some(Ruled::UnitOfBoth),
         }
     }
 
-    // What a call shows that is refused before the id is looked at.
-    fn before_id(&self, number: u32) -> Option<Ruled> {
+    // What a call shows that is refused before the id or a code is looked at.
+    fn before_bits(&self, number: u32) -> Option<Ruled> {
+        let has_id_zero = self.judges.has_id_zero();
         match number {
-            3 if self.judges.has_id_zero() => Some(Ruled::IdZeroTooLong),
-            4 if self.judges.has_id_zero() => Some(Ruled::IdZeroWorkShort),
+            3 if has_id_zero => Some(Ruled::IdZeroTooLong),
+            3 if self.judges.cut_too_late() => Some(Ruled::CutCodeTooLong),
+            4 if has_id_zero => Some(Ruled::IdZeroWorkShort),
+            4 if self.judges.set_aside() == Some(Rule::CutCode) => Some(Ruled::CutCodeWorkShort),
             _ => None,
         }
     }
@@ -159,7 +180,7 @@ impl Reader {
         let number =
             calls::parse(unit, self.work.lend(work, salt), self.record.lend(record, salt), &mut length, &mut bits);
         report.answer("vps_parse", judged.answer(left.number));
-        if let Some(what) = judged.before_id(left.number) {
+        if let Some(what) = judged.before_bits(left.number) {
             report.ruled(what);
         }
         let numbers = (number, length, bits) == (left.number, left.length, left.bits);

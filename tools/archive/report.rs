@@ -1,5 +1,6 @@
 // What was compared: counts by call and answer, and the differences.
 use crate::counts::{Figured, Paged, Ruled, Tally, LEAST};
+use judge::cut_rule::{Cut, Left, Name};
 use judge::structures::{Mode, MODES, SHAPES};
 use std::collections::{BTreeMap, BTreeSet};
 
@@ -24,6 +25,8 @@ impl Answer {
 #[derive(Default)]
 pub struct Report {
     ruled: Tally<Ruled>,
+    cut: Tally<Left>,
+    cut_codes: Tally<Name>,
     paged: Tally<Paged>,
     figured: Tally<Figured>,
     answers: BTreeMap<(&'static str, Answer), usize>,
@@ -56,6 +59,12 @@ impl Report {
     // An input that the second judge has an answer for.
     pub fn ruled(&mut self, what: Ruled) {
         self.ruled.add(what, 1);
+    }
+
+    // The cut code of a unit that is set aside for it.
+    pub fn cut(&mut self, cut: Cut) {
+        self.cut.add(cut.left, 1);
+        self.cut_codes.add(cut.name, 1);
     }
 
     // So many of what pages show.
@@ -109,18 +118,23 @@ impl Report {
     // What was set aside, and what else the second judge has an answer for.
     pub fn print_second_judge(&self) {
         self.ruled.print();
+        self.cut.print();
+        self.cut_codes.print();
         self.paged.print();
         self.figured.print();
     }
 
     // What the second judge had too seldom, in short units alone or in all.
     fn few_of_second_judge(&self, short_units: bool) -> Vec<String> {
-        [self.ruled.few(short_units), self.paged.few(short_units), self.figured.few(short_units)].concat()
+        let of_cut_codes = [self.cut.few(short_units), self.cut_codes.few(short_units)].concat();
+        let others = [self.paged.few(short_units), self.figured.few(short_units)].concat();
+        [self.ruled.few(short_units), of_cut_codes, others].concat()
     }
 
     // What the second judge had too seldom in short units, the answers of what the Rust has not among them.
     pub fn few_of_short_units(&self) -> Vec<String> {
-        let answers = self.few_answers([page_answers(), figure_answers(), id_zero_answers()].concat());
+        let asked = [page_answers(), figure_answers(), id_zero_answers(), vec![CUT_CODE_ANSWER]];
+        let answers = self.few_answers(asked.concat());
         answers.into_iter().chain(self.few_of_second_judge(true)).collect()
     }
 
@@ -158,8 +172,11 @@ fn expected() -> Vec<(&'static str, Answer)> {
             .map(|call| (call, Answer::Success)),
     );
     all.extend(id_zero_answers());
+    all.push(CUT_CODE_ANSWER);
     all
 }
+
+const CUT_CODE_ANSWER: (&str, Answer) = ("vps_parse", Answer::Refused(35));
 
 // A unit with id 0 is refused, and a list with id 0 has no sections.
 fn id_zero_answers() -> Vec<(&'static str, Answer)> {

@@ -69,7 +69,8 @@ impl Writer {
 // Counts a list that is set aside. Of those whose extension ends in 0 the Rust writes none.
 fn count(list: &[u32], well_formed: bool, report: &mut Report) {
     match set_aside(list) {
-        None => {}
+        // a list has no codes
+        None | Some(Rule::CutCode) => {}
         Some(Rule::Id) => report.ruled(Ruled::IdZeroList),
         Some(Rule::Extension) => {
             report.ruled(if well_formed { Ruled::ListWritten } else { Ruled::ListRefused });

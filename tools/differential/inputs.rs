@@ -1,6 +1,8 @@
 // Units to compare: all short ones, units of every mode and size as they are written, damaged copies, random bytes, units
 // with many layers and sets, units whose figures are at their ends, and units around the greatest length.
+use archive::cases::with_schedules;
 use bitstream::h266::{write_vps, VvcVps};
+use bitstream::nal::{ebsp_to_rbsp, rbsp_to_ebsp};
 use judge::draft::{unit_of_rbsp, Draft};
 use judge::extension_rule::{write_rbsp, write_unit};
 use judge::page::{MOST_LAYERS, MOST_SETS};
@@ -72,6 +74,8 @@ pub struct Inputs {
     pool: Vec<Vec<u8>>,
     pending: VecDeque<Input>,
     longs: usize,
+    // the RBSP of a unit that is longer than the greatest by its tables
+    tables: Vec<u8>,
 }
 
 const POOL: usize = 1_024;
@@ -82,6 +86,9 @@ const WIDE: usize = 256;
 // One unit in so many has figures at their ends.
 const EXTREME: usize = 256;
 
+// With so many timing entries of 32 schedules tables are longer than the greatest length.
+const TIMING_ENTRIES: usize = 32;
+
 // A long extension ends in at most so many zeros: in a run of zeros with a one among them the Rust takes time that grows
 // with the square of its length.
 const MOST_ZEROS: usize = 4_096;
@@ -91,7 +98,8 @@ impl Inputs {
         let mut random = Random::new(seed);
         let streams = [64, 400, 4_096].map(|longest| Stream::new(random.number(), longest));
         let [maker, small] = [false, true].map(|small| Maker { random: Random::new(random.number()), small });
-        Self { random, maker, small, streams, pool: Vec::new(), pending: VecDeque::new(), longs: 0 }
+        let tables = ebsp_to_rbsp(&with_schedules(TIMING_ENTRIES).unit[2..]);
+        Self { random, maker, small, streams, pool: Vec::new(), pending: VecDeque::new(), longs: 0, tables }
     }
 
     // The next unit of at most some four thousand bytes.
@@ -173,7 +181,7 @@ impl Inputs {
     fn damaged(&mut self) -> Input {
         let mut unit = self.picked();
         let place = self.random.below(unit.len() + 1);
-        let kind = match self.random.below(8) {
+        let kind = match self.random.below(9) {
             0 | 1 => {
                 let other = self.picked();
                 unit.truncate(place);
@@ -202,9 +210,28 @@ impl Inputs {
                 unit.drain(place..(place + 1 + self.random.below(3)).min(unit.len()).max(place));
                 "bytes lost"
             }
+            7 => {
+                unit = self.cut_at_bit(&unit);
+                "RBSP cut at a bit, and stuffed again"
+            }
             _ => return self.cut(unit, place),
         };
         Input { unit, kind }
+    }
+
+    // The RBSP up to a bit, with zeros or ones up to the next byte, or without the byte begun.
+    fn cut_at_bit(&mut self, unit: &[u8]) -> Vec<u8> {
+        let (header, payload) = unit.split_at(unit.len().min(2));
+        let mut rbsp = ebsp_to_rbsp(payload);
+        let bits = self.random.below(8 * rbsp.len() + 1);
+        rbsp.truncate(bits.div_ceil(8));
+        let rest = 0xff >> (bits % 8);
+        match rbsp.last_mut() {
+            Some(last) if bits % 8 > 0 => *last = [*last & !rest, *last | rest][self.random.below(2)],
+            _ => {}
+        }
+        rbsp.truncate(rbsp.len() - if bits % 8 > 0 { self.random.below(2) } else { 0 });
+        [header, &rbsp_to_ebsp(&rbsp)].concat()
     }
 
     // Behind one byte, or now and then behind each.
@@ -258,6 +285,12 @@ impl Inputs {
         let v = VvcVps { vps_video_parameter_set_id: 0, ..self.small.structure(MODES[self.longs % MODES.len()]) };
         let length = [65_534, 65_535, 65_536, 65_537, 65_600][self.random.below(5)];
         Input { unit: self.followed(v, length).expect("a small structure is short"), kind: "long, with id 0" }
+    }
+
+    // Long tables, cut up to about the greatest length: over it 3 comes before 35.
+    pub fn long_and_cut(&mut self) -> Input {
+        let length = [65_534, 65_535, 65_536, 65_537, 4_096 + self.random.below(61_000)][self.random.below(5)];
+        Input { unit: unit_of_rbsp(&self.tables[..length]), kind: "long tables, cut" }
     }
 
     fn structure(&mut self) -> VvcVps {

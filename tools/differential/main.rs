@@ -1,7 +1,7 @@
-// The static archive against the Rust, over many units, records and byte strings: every number that a call returns or
-// stores and every lent buffer afterwards; and the sentences of the refusals that were met. What is set aside, extension
-// bits that end in 0 and ids that are 0, is held to the second judge, and so are layer pages, rates, sizes and intervals. Ends
-// with 1 if anything differs or if an answer was met too seldom.
+// The static archive against the Rust, over many units, records and byte strings: every number that a call returns or stores
+// and every lent buffer afterwards; and the sentences of the refusals that were met. What is set aside, extension bits that
+// end in 0, ids that are 0 and codes that the end cuts, is held to the second judge, and so are layer pages, rates, sizes
+// and intervals. Ends with 1 if anything differs or if an answer was met too seldom.
 mod inputs;
 
 use archive::figures::Figures;
@@ -108,7 +108,7 @@ impl Run {
     }
 
     fn long_unit(&mut self) {
-        for input in [self.inputs.long(), self.inputs.long_with_id_zero()] {
+        for input in [self.inputs.long(), self.inputs.long_with_id_zero(), self.inputs.long_and_cut()] {
             self.unit(&input, true);
         }
     }

@@ -1,7 +1,7 @@
 // A coverage-guided fuzz target over the static archive, with the Rust as judge in the same process, and the second judge
-// for extension bits, id 0, layer pages, rates, sizes and intervals. An input's first byte chooses the lengths of the buffers,
-// the rest is a unit; whatever differs ends the run. What the second judge had is printed at the end, which is a failure if it
-// was too little.
+// for extension bits, id 0, cut codes, layer pages, rates, sizes and intervals. An input's first byte chooses the lengths of
+// the buffers, the rest is a unit; whatever differs ends the run. What the second judge had is printed at the end, which is
+// a failure if it was too little.
 #![no_main]
 mod traps;
 

@@ -1,11 +1,12 @@
 // The tables of crates/definition_units: small units and records with the judges' answers, as antt.
+use crate::cut_codes::units_of_each_end;
 use crate::id_rule::ID_ZERO;
 use crate::judges::{Judges, Rule};
 use crate::record::{Reading, read, record_of, set_aside, structure_of, written};
 use crate::refusal::numbers;
 use crate::show::{hex_of, unit_of};
 use crate::structures::{Mode, SHAPES, mode_of, shapes};
-use crate::units::{Unit, Units};
+use crate::units::{CUT_IN_CODE, Unit, Units};
 use bitstream::h266::{
     VvcCpbSchedule, VvcGeneralTimingHrd, VvcOlsTimingHrd, VvcOlsTimingHrdSublayer, VvcSublayerHrd, VvcVps,
     VvcVpsOlsHrd, VvcVpsTimingHrd, parse_vps,
@@ -25,6 +26,9 @@ struct Stream {
 
 const SHORT: Stream = Stream { seed: 0x5650_5301, shortest: 0, longest: 40, each: 4, least: 6 };
 const LONGER: Stream = Stream { seed: 0x5650_5302, shortest: 41, longest: 80, each: 0, least: 3 };
+
+// The most bytes of a unit that ends in a code.
+const ENDED_LONGEST: usize = 50;
 
 // So many units of a stream are looked at.
 const LENGTH: usize = 40_000;
@@ -66,6 +70,12 @@ pub fn write(folder: &str) -> std::io::Result<String> {
         files.push((name, about, kinds.iter().flat_map(of_kind).collect()));
     }
     files.push(("UnitsLonger", "Units of all these kinds that are longer.", longer.iter().collect()));
+    let ended = ended_in_codes();
+    files.push((
+        "UnitsEndedInCodes",
+        "Units that end in a code: each code cut in every way, and whole or too long with the last bit.",
+        ended.iter().collect(),
+    ));
     for (name, about, units) in &files {
         let entries = units.iter().map(|answered| unit_entry(answered)).collect();
         put(folder, name, about, &Table { constants: Vec::new(), entries })?;
@@ -107,6 +117,14 @@ pub fn answer_of(reading: &Reading) -> Answer {
     }
 }
 
+// The answer, and the Rust's number where the rule of cut codes has another. By this units are chosen, so that there are
+// some of each number that was given behind a cut code.
+pub type AnswerOfBoth = (Answer, Option<u32>);
+
+pub fn answer_of_both(judges: &Judges) -> AnswerOfBoth {
+    (answer_of(&Reading::of(judges.found())), judges.refused_behind_cut())
+}
+
 fn shapes_of((unit, reading): &Answered) -> Vec<&'static str> {
     match reading {
         Reading::Refused(_) => Vec::new(),
@@ -122,18 +140,19 @@ fn layers(unit: &[u8]) -> usize {
     }
 }
 
-// So many units of each kind and answer from a stream, and more of a refusal or a shape that has few.
+// So many units of each kind and answer from a stream, and more of a refusal or a shape that has few. Those that are made to
+// end in a code have a file of their own.
 fn chosen(stream: &Stream) -> Vec<Answered> {
     let mut units = Units::new(stream.seed, stream.longest);
-    let mut taken: BTreeMap<(&str, Answer), usize> = BTreeMap::new();
-    let mut answers: BTreeMap<Answer, usize> = BTreeMap::new();
+    let others = std::iter::repeat_with(|| units.next()).filter(|unit| unit.kind != CUT_IN_CODE);
+    let mut taken: BTreeMap<(&str, AnswerOfBoth), usize> = BTreeMap::new();
+    let mut answers: BTreeMap<AnswerOfBoth, usize> = BTreeMap::new();
     let mut shown: BTreeMap<&str, usize> = BTreeMap::new();
     let mut all = Vec::new();
-    for _ in 0..LENGTH {
-        let unit = units.next();
-        let reading = read(&unit.bytes);
-        let answer = answer_of(&reading);
-        let many = layers(&unit.bytes) > MOST_LAYERS && !matches!(answer, Answer::Refused(1..=7 | ID_ZERO));
+    for unit in others.take(LENGTH) {
+        let judges = Judges::of(&unit.bytes);
+        let (reading, answer) = (Reading::of(judges.found()), answer_of_both(&judges));
+        let many = layers(&unit.bytes) > MOST_LAYERS && !matches!(answer.0, Answer::Refused(1..=7 | ID_ZERO));
         if many || unit.bytes.len() < stream.shortest {
             continue;
         }
@@ -152,6 +171,15 @@ fn chosen(stream: &Stream) -> Vec<Answered> {
         }
     }
     all
+}
+
+// One unit of each code and of each way in which the RBSP ends in it.
+fn ended_in_codes() -> Vec<Answered> {
+    let answered = |bytes: Vec<u8>| {
+        let reading = read(&bytes);
+        (Unit { bytes, kind: CUT_IN_CODE }, reading)
+    };
+    units_of_each_end(0x5650_5303, ENDED_LONGEST, 1).into_iter().map(answered).collect()
 }
 
 // How many units there are of each refusal and each shape, with a stop where there are too few.

@@ -39,6 +39,11 @@ impl Draft {
 
     // The bytes of the first so many items; the last byte is filled with zeros.
     pub fn rbsp(&self, count: usize) -> Vec<u8> {
+        self.written(count).finish()
+    }
+
+    // The bits of the first so many items.
+    pub fn written(&self, count: usize) -> BitWriter {
         let mut w = BitWriter::new();
         for item in &self.items[..count] {
             match item.coded {
@@ -52,7 +57,7 @@ impl Draft {
                 }
             }
         }
-        w.finish()
+        w
     }
 
     pub fn unit(&self) -> Vec<u8> {
@@ -62,6 +67,11 @@ impl Draft {
     // The places of the items of a name.
     pub fn places(&self, name: &str) -> Vec<usize> {
         (0..self.items.len()).filter(|&i| self.items[i].name == name).collect()
+    }
+
+    // The places of the codes.
+    pub fn codes(&self) -> Vec<usize> {
+        (0..self.items.len()).filter(|&i| matches!(self.items[i].coded, Coded::Code(_))).collect()
     }
 
     fn u(&mut self, name: &'static str, width: u32, value: impl Into<u32>) {

@@ -6,7 +6,7 @@ use bitstream::nal::{ebsp_to_rbsp, rbsp_to_ebsp};
 pub const ID_ZERO: u32 = 34;
 
 const VPS_TYPE: u8 = 14;
-const MOST_RBSP: usize = 65_535;
+pub const MOST_RBSP: usize = 65_535;
 
 // Whether a unit is refused with 34, where the work buffer is long enough.
 pub fn refuses_unit(unit: &[u8]) -> bool {

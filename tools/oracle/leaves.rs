@@ -1,6 +1,7 @@
-// The Rust's answers on stuffing, reading bits and writing bits, as a list for crates/leaves_replay.
-// Where our functions have a rule that the Rust has not, the expected answer is the Rust's with that rule applied;
-// whether there are more data is answered by the rule of extension bits alone.
+// The Rust's answers on stuffing, reading bits and writing bits, as a list for crates/leaves_replay. Where our functions
+// have a rule that the Rust has not, the expected answer is the Rust's with that rule applied; whether there are more data
+// is answered by the rule of extension bits alone, and whether the end cuts a code by the rule of cut codes.
+use crate::cut_rule::{CODE_PAST_END, cuts_code};
 use crate::extension_rule::more_rbsp_data;
 use crate::list::List;
 use crate::random::Random;
@@ -8,6 +9,7 @@ use bitstream::BitstreamError;
 use bitstream::bit_reader::BitReader;
 use bitstream::bit_writer::BitWriter;
 use bitstream::nal::{ebsp_to_rbsp, rbsp_to_ebsp};
+use std::collections::BTreeMap;
 
 // Numbers of refusals.
 const CODE_TOO_LONG: u8 = 14;
@@ -43,14 +45,21 @@ pub fn list() -> List {
     made().list
 }
 
-// How many answers of the question for more data are the Rust's too, the rule's alone, and 31.
+// How many answers of the question for more data are the Rust's too, the rule's alone, and 31; and how many codes are read
+// as the Rust reads them or refuses them, how many are cut, and how many are 31.
 pub fn judges() -> String {
-    let [both, rule, refused] = made().asked_for_more;
-    format!("more_rbsp_data: the Rust's and the rule's {both}, the rule's alone {rule}, 31 {refused}\n")
+    let Leaves { asked_for_more: [both, rule, refused], codes_read, .. } = made();
+    let codes = |number: u8| codes_read.get(&number).copied().unwrap_or(0);
+    let [read, too_long, cut, limit] = [0, CODE_TOO_LONG, CODE_PAST_END as u8, NOT_WELL_FORMED].map(codes);
+    format!(
+        "more_rbsp_data: the Rust's and the rule's {both}, the rule's alone {rule}, 31 {refused}
+read_code: the Rust's value {read}, the Rust's refusal, 14, {too_long}, the rule's, 35, {cut}, 31 {limit}\n"
+    )
 }
 
 fn made() -> Leaves {
-    let mut leaves = Leaves { list: List::new(4_096), random: Random::new(0x4832_3636), asked_for_more: [0; 3] };
+    let random = Random::new(0x4832_3636);
+    let mut leaves = Leaves { list: List::new(4_096), random, asked_for_more: [0; 3], codes_read: BTreeMap::new() };
     leaves.stuffing();
     leaves.peeking();
     leaves.reading();
@@ -80,10 +89,14 @@ fn reader_at(bytes: &[u8], at: u64) -> BitReader<'_> {
     reader
 }
 
-// A step of the reader: the Rust's answer, but 31 for a place from 2^63 on and for a width over 32.
+// A step of the reader: the Rust's answer, but 31 for a place from 2^63 on and for a width over 32, and 35 for a code that
+// the end cuts.
 fn read(step: u8, bytes: &[u8], at: u64, width: u32) -> Answer {
     if at >= PLACE_LIMIT || (step == FIELD && width > 32) {
         return Answer::refused(NOT_WELL_FORMED);
+    }
+    if step == CODE && cuts_code(bytes, at) {
+        return Answer::refused(CODE_PAST_END as u8);
     }
     let mut reader = reader_at(bytes, at);
     let value = match step {
@@ -176,6 +189,8 @@ struct Leaves {
     random: Random,
     // answers that are the Rust's and the rule's, the rule's alone, and 31
     asked_for_more: [usize; 3],
+    // by number
+    codes_read: BTreeMap<u8, usize>,
 }
 
 // Every string of a length over some bytes.
@@ -255,7 +270,11 @@ impl Leaves {
     }
 
     fn read_case(&mut self, step: u8, bytes: &[u8], at: u64, width: u32) {
-        self.bits_case(READ + step, at, width, &read(step, bytes, at, width), bytes);
+        let answer = read(step, bytes, at, width);
+        if step == CODE {
+            *self.codes_read.entry(answer.number).or_default() += 1;
+        }
+        self.bits_case(READ + step, at, width, &answer, bytes);
     }
 
     // The two functions that know no refusal, and the two questions.
@@ -455,6 +474,7 @@ impl Leaves {
             self.read_case(CODE, &[], at, 0);
             self.read_case(CODE, &[0], at, 0);
         }
+        self.read_ends();
         for at in self.far_places() {
             self.read_case(CODE, &[255], at, 0);
             self.read_case(CODE, &[0; 9], at, 0);
@@ -466,6 +486,17 @@ impl Leaves {
             self.read_case(CODE, &bytes, at, 0);
         }
         self.list.end_of_kind("read_code");
+    }
+
+    // Zeros alone from each place of a byte to the end, 31 and 32 among them, and the end and places behind it.
+    fn read_ends(&mut self) {
+        for at in 0..8 {
+            (1..=6).for_each(|length| self.read_case(CODE, &vec![0; length], at, 0));
+        }
+        for length in 1..=5 {
+            let end = 8 * length as u64;
+            (end..=end + 9).for_each(|at| self.read_case(CODE, &vec![255; length], at, 0));
+        }
     }
 
     // Bytes with a code of so many zeros at a place, behind ones; the suffix all zeros, all ones or of random bits.

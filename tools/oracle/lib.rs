@@ -1,7 +1,9 @@
-// The Rust as judge, and a second judge for extension bits, id 0, the layer page, and rates, sizes and intervals: their
-// answers in the numbers of 01, and makers of units, records and lists.
+// The Rust as judge, and a second judge for extension bits, id 0, cut codes, the layer page, and rates, sizes and intervals:
+// their answers in the numbers of 01, and makers of units, records and lists.
 pub mod broken;
 pub mod changed_records;
+pub mod cut_codes;
+pub mod cut_rule;
 pub mod definition_units;
 pub mod draft;
 pub mod extension_rule;

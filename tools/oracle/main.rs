@@ -14,6 +14,7 @@ oracle unit-list                             the list that crates/units_replay r
 oracle unit-list expected                    what it is to print
 oracle unit-list shapes                      how many of its accepted cases show each shape
 oracle unit-list set-aside                   how many cases of each answer are the second judge's
+oracle unit-list cut                         how many of its cases end in each code, cut or whole
 oracle record-list                           the list that crates/records_replay replays, as bytes
 oracle record-list expected                  what it is to print
 oracle record-list shapes                    how many of its written cases show each shape, and how many each way has
@@ -42,6 +43,7 @@ fn main() -> ExitCode {
         ["unit-list", "expected"] => write_out(unit_list::list().expected().as_bytes()),
         ["unit-list", "shapes"] => write_out(unit_list::shapes_shown().as_bytes()),
         ["unit-list", "set-aside"] => write_out(unit_list::set_aside().as_bytes()),
+        ["unit-list", "cut"] => write_out(unit_list::cut().as_bytes()),
         ["record-list"] => write_out(record_list::list().bytes()),
         ["record-list", "expected"] => write_out(record_list::list().expected().as_bytes()),
         ["record-list", "shapes"] => write_out(record_list::shapes_shown().as_bytes()),

@@ -1,9 +1,10 @@
 // The number of each refusal of the Rust's reader, by the words of its error.
+use crate::cut_rule::CODE_PAST_END;
 use crate::id_rule::ID_ZERO;
 use bitstream::BitstreamError;
 
-// How each message begins. 3, 4 and 30 to 32 speak of lengths and buffers that the Rust's reader does not know, and 34 of an
-// id that it takes.
+// How each message begins. 3, 4 and 30 to 32 speak of lengths and buffers that the Rust's reader does not know, 34 of an id
+// that it takes, and 35 of codes that it reads on past the end.
 const NUMBERS: [(&str, u32); 27] = [
     ("H.266 VPS NAL needs at least the 2-byte header", 1),
     ("expected VPS NAL", 2),
@@ -49,5 +50,5 @@ pub fn number_of(error: &BitstreamError) -> u32 {
 
 // Every number that the judges give for a unit.
 pub fn numbers() -> impl Iterator<Item = u32> {
-    NUMBERS.iter().map(|(_, number)| *number).chain([ID_ZERO])
+    NUMBERS.iter().map(|(_, number)| *number).chain([ID_ZERO, CODE_PAST_END])
 }

@@ -19,7 +19,10 @@ pub fn hex_of(bytes: &[u8]) -> String {
 pub fn answer(unit: &[u8]) -> String {
     let judges = Judges::of(unit);
     let by_rule = judges.set_aside().map_or(String::new(), |rule| ruled(rule, judges.found()));
-    by_rust(unit) + &by_rule
+    let cut = judges.cut(unit).map_or(String::new(), |cut| {
+        format!("cut code: {}, at bit {} of the RBSP: there is {}\n", cut.name.0, cut.place, cut.left.name())
+    });
+    by_rust(unit) + &by_rule + &cut
 }
 
 fn ruled(rule: Rule, found: &Found) -> String {

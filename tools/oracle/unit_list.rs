@@ -1,12 +1,14 @@
 // The list that crates/units_replay replays: units of all kinds with the judges' answers, each with a length of the work
 // buffer and of the record. The Rust has no buffers: 3, 4 and 30 are rules of this project, applied to the answers.
-use crate::definition_units::{Answer, answer_of};
+use crate::cut_codes::{EndedIn, ended_in, units_of_each_end};
+use crate::definition_units::{Answer, AnswerOfBoth, D, answer_of_both, timing, vps_of};
+use crate::draft::{Draft, unit_of_rbsp};
 use crate::judges::{Judges, Rule};
 use crate::list::{List, put_number};
 use crate::record::{Reading, read, record_of, structure_of};
 use crate::show::unit_of;
 use crate::structures::{mode_of, shapes};
-use crate::units::{Unit, Units};
+use crate::units::{CUT_IN_CODE, Unit, Units};
 use bitstream::nal::ebsp_to_rbsp;
 use std::collections::BTreeMap;
 
@@ -45,7 +47,7 @@ struct Case {
 
 pub fn list() -> List {
     let mut cases: BTreeMap<Answer, Vec<Vec<u8>>> = BTreeMap::new();
-    for case in cases_of_streams().iter().chain(&long_cases()) {
+    for case in all_cases() {
         let (answer, content) = case.recorded();
         cases.entry(answer).or_default().push(content);
     }
@@ -73,12 +75,23 @@ pub fn shapes_shown() -> String {
 // How many cases of each rule and answer have a unit that is set aside, so that the answer is the second judge's.
 pub fn set_aside() -> String {
     let mut counts: BTreeMap<(Rule, Answer), usize> = BTreeMap::new();
-    for case in cases_of_streams().iter().chain(&long_cases()) {
+    for case in all_cases() {
         if let Some(rule) = Judges::of(&case.whole_unit()).set_aside() {
             *counts.entry((rule, case.recorded().0)).or_default() += 1;
         }
     }
     counts.iter().map(|((rule, answer), count)| format!("{}: {}: {count}\n", rule.name(), name(answer))).collect()
+}
+
+// How many cases end in each code, by what is there of it.
+pub fn cut() -> String {
+    let mut counts: BTreeMap<EndedIn, usize> = BTreeMap::new();
+    for case in all_cases() {
+        if let Some(ended_in) = ended_in(&case.whole_unit()) {
+            *counts.entry(ended_in).or_default() += 1;
+        }
+    }
+    counts.iter().map(|((code, how), count)| format!("{}: {how}: {count}\n", code.0)).collect()
 }
 
 fn name(answer: &Answer) -> String {
@@ -134,6 +147,10 @@ impl Case {
     }
 }
 
+fn all_cases() -> impl Iterator<Item = Case> {
+    cases_of_streams().into_iter().chain(long_cases()).chain(cut_cases())
+}
+
 // Units of the streams with room to spare or just enough, and some of them with less.
 fn cases_of_streams() -> Vec<Case> {
     let mut cases = Vec::new();
@@ -157,17 +174,18 @@ fn cases_of_streams() -> Vec<Case> {
     cases
 }
 
+// Units that are made to end in a code have cases of their own.
 fn chosen(stream: &Stream) -> Vec<Unit> {
     let mut units = Units::new(stream.seed, stream.longest);
-    let mut of_kind: BTreeMap<(&str, Answer), usize> = BTreeMap::new();
-    let mut of_answer: BTreeMap<Answer, usize> = BTreeMap::new();
+    let others = std::iter::repeat_with(|| units.next()).filter(|unit| unit.kind != CUT_IN_CODE);
+    let mut of_kind: BTreeMap<(&str, AnswerOfBoth), usize> = BTreeMap::new();
+    let mut of_answer: BTreeMap<AnswerOfBoth, usize> = BTreeMap::new();
     let mut taken = Vec::new();
-    for _ in 0..LENGTH {
-        let unit = units.next();
+    for unit in others.take(LENGTH) {
         if unit.bytes.len() < stream.shortest {
             continue;
         }
-        let answer = answer_of(&read(&unit.bytes));
+        let answer = answer_of_both(&Judges::of(&unit.bytes));
         let of_this_kind = of_kind.entry((unit.kind, answer)).or_default();
         let of_this_answer = of_answer.entry(answer).or_default();
         if *of_this_kind < stream.each && *of_this_answer < stream.most {
@@ -179,12 +197,12 @@ fn chosen(stream: &Stream) -> Vec<Unit> {
     taken
 }
 
-// Around the longest RBSP: an accepted unit of one layer, the same with id 0, one of two layers, one that is refused, and one
-// of another type, each followed by bytes of ones up to a length of the RBSP; extension bits that end in 0, and none,
-// followed by zeros.
+// Around the longest RBSP: an accepted unit of one layer, the same with id 0, one of two layers, one that is refused, and
+// one of another type, each followed by bytes of ones up to a length of the RBSP; extension bits that end in 0, and none,
+// followed by zeros; and tables that go on as long as ones do.
 fn long_cases() -> Vec<Case> {
     let mut cases = Vec::new();
-    for hex in [
+    let named = [
         "0071100000030233000040ff",
         "0071000003000233000040ff",
         "0071104000480002330000fc90ff",
@@ -192,8 +210,9 @@ fn long_cases() -> Vec<Case> {
         "00791000ff",
         "00711000000302330000d000",
         "007110000003023300008000",
-    ] {
-        let unit = unit_of(hex).expect("pairs of hexadecimal digits");
+    ];
+    let named = named.map(|hex| unit_of(hex).expect("pairs of hexadecimal digits"));
+    for unit in named.into_iter().chain([begun_tables()]) {
         let begun = ebsp_to_rbsp(&unit[2..]).len();
         for length in [MOST_RBSP - 1, MOST_RBSP, MOST_RBSP + 1, MOST_RBSP + 200] {
             for work in [length - 1, length, MOST_RBSP] {
@@ -202,4 +221,35 @@ fn long_cases() -> Vec<Case> {
         }
     }
     cases
+}
+
+// 256 sets of two layers and as many timing entries of seven sublayers, each with 32 schedules of both kinds: up to the
+// first entry, and from there on ones, which are codes and flags. Where the ones end, a code is cut.
+fn begun_tables() -> Vec<u8> {
+    let mut v = vps_of(D);
+    v.vps_max_sublayers_minus1 = 6;
+    v.vps_ols_mode_idc = 2;
+    v.vps_ols_output_layer_flags = vec![vec![1, 1]; 256];
+    v.ptls[0].ptl.ptl_sublayer_level_present_flag = vec![0; 6];
+    v.ols_dpbs = vec![v.ols_dpbs[0].clone(); 256];
+    let mut t = timing(1, 1, 1, 32);
+    t.vps_sublayer_cpb_params_present_flag = 1;
+    t.entries = vec![t.entries[0].clone(); 256];
+    v.timing_hrd = Some(t);
+    let draft = Draft::of(&v);
+    let mut w = draft.written(draft.places("fixed_pic_rate_general_flag")[0]);
+    (w.bit_pos() % 8..16).for_each(|_| w.write_bit(1));
+    unit_of_rbsp(&w.finish())
+}
+
+// So many units of each code and of each way in which the RBSP ends in it; with room to spare or just enough.
+const ENDED_EACH: usize = 3;
+const ENDED_LONGEST: usize = 64;
+
+fn cut_cases() -> Vec<Case> {
+    let case = |(i, unit): (usize, Vec<u8>)| {
+        let work = ebsp_to_rbsp(&unit[2..]).len() + [0, 1, 9][i % 3];
+        Case { unit, again: 0, work, record: [0, 1, 200][i % 3] }
+    };
+    units_of_each_end(0x5650_5313, ENDED_LONGEST, ENDED_EACH).into_iter().enumerate().map(case).collect()
 }

@@ -1,5 +1,6 @@
 // Units of all kinds with the judges' answers: structures of every mode as they are written, and damaged copies that
 // reach every refusal of the reader.
+use crate::cut_codes::{End, MOST_BYTES, ends, unit_ending};
 use crate::draft::{Coded, Draft, unit_of_rbsp};
 use crate::extension_rule::write_unit;
 use crate::id_rule::unit_with_id_zero;
@@ -27,6 +28,8 @@ pub struct Units {
     maker: Maker,
     // chooses the units that come with id 0 too
     ids: Random,
+    // chooses the codes that the end cuts
+    cuts: Random,
     longest: usize,
     bases: usize,
     seen: HashSet<Vec<u8>>,
@@ -36,11 +39,15 @@ pub struct Units {
 // One unit in so many comes with id 0 too.
 const ID_ZERO: usize = 24;
 
+// The kind of units that end in a code.
+pub const CUT_IN_CODE: &str = "cut in a code";
+
 impl Units {
     pub fn new(seed: u64, longest: usize) -> Self {
         let mut units = Self {
             maker: Maker { random: Random::new(seed), small: longest <= 64 },
             ids: Random::new(!seed),
+            cuts: Random::new(seed.rotate_left(32)),
             longest,
             bases: 0,
             seen: HashSet::new(),
@@ -97,6 +104,7 @@ impl Units {
         self.appended(&unit);
         self.cut(&unit);
         self.behind_items(&draft);
+        self.cut_in_codes(&draft);
         self.alignments(&draft);
         self.forced(&draft);
         for targets in targets(&v, &draft) {
@@ -173,6 +181,24 @@ impl Units {
         }
     }
 
+    // The items up to a code, and then the end inside the code or with its last bit. Which units come with id 0 too isn't
+    // chosen as of the others, so that these stay what they are.
+    fn cut_in_codes(&mut self, draft: &Draft) {
+        let codes = draft.codes();
+        if codes.is_empty() {
+            return;
+        }
+        for _ in 0..2 {
+            let place = codes[self.cuts.below(codes.len())];
+            let start = draft.written(place).bit_pos();
+            let ends: Vec<End> = ends(start, self.cuts.below(MOST_BYTES + 1)).collect();
+            let end = ends[self.cuts.below(ends.len())];
+            let unit = unit_ending(draft, place, end, &mut self.cuts);
+            let with_id_zero = if self.cuts.below(ID_ZERO) == 0 { unit_with_id_zero(&unit) } else { None };
+            [Some(unit), with_id_zero].into_iter().flatten().for_each(|unit| self.put(CUT_IN_CODE, unit));
+        }
+    }
+
     // Ones in the alignments that are not looked at.
     fn alignments(&mut self, draft: &Draft) {
         let mut other = draft.clone();
@@ -207,8 +233,7 @@ impl Units {
             }
             self.add("another value", other.unit());
         }
-        let codes: Vec<usize> =
-            (0..draft.items.len()).filter(|&i| matches!(draft.items[i].coded, Coded::Code(_))).collect();
+        let codes = draft.codes();
         if !codes.is_empty() {
             let place = codes[self.below(codes.len())];
             let zeros = 30 + self.below(5) as u32;
@@ -348,7 +373,7 @@ fn targets(v: &VvcVps, draft: &Draft) -> Vec<Vec<Target>> {
 }
 
 // Units that 01 names or that show a point in which a reader is easily wrong.
-const NAMED: [&str; 53] = [
+const NAMED: [&str; 59] = [
     // U, U and more, U with other last bytes
     "0071100000030233000040",
     "0071100000030233000040ff",
@@ -367,8 +392,8 @@ const NAMED: [&str; 53] = [
     "0069",
     "0071",
     "00711038",
-    // nothing behind the id and the first bits of the layers; id 0, U with it and its greatest, and what is refused before it
-    // and behind it
+    // nothing behind the id and the first bits of the layers; id 0, U with it and its greatest, and what is refused before
+    // it and behind it
     "007110",
     "007100",
     "00710f",
@@ -415,6 +440,14 @@ const NAMED: [&str; 53] = [
     "0071104000480002330000fc",
     "0071104000480002330000fc00",
     "0071104000480002330000fc000000000000",
+    // the shortest whose code is cut; what is left a zero, or all but the last bit; 31 zeros, 32 zeros; a code over its
+    // limit that ends with the unit
+    "007110400048",
+    "007110400048000233000080",
+    "0071104000480002330000a2",
+    "00711040004800023300008000000300",
+    "0071104000480002330000030000030000",
+    "00711040004800023300008080",
 ];
 
 // ── Printing ────────────────────────────────────────────────────────────
