@@ -5,4 +5,5 @@ pub mod UnitsRefused
 pub mod UnitsCut
 pub mod UnitsChanged
 pub mod UnitsLonger
+pub mod UnitsEndedInCodes
 pub mod RecordsChanged
