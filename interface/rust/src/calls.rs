@@ -18,8 +18,7 @@ pub struct Parsed {
 ///
 /// On success the record stands at the beginning of `record`, and the RBSP (the unit behind its 2-byte header with stuffing removed)
 /// at the beginning of `work`; what is behind each is as before. Refusals 1 to 4 leave both as they were. Every other refusal leaves
-/// `record` as it was and the RBSP at the beginning of `work`. Refusals 1 to 30, 34 and 35 can
-/// come out.
+/// `record` as it was and the RBSP at the beginning of `work`. Refusals 1 to 30, 34 and 35 can come out.
 ///
 /// ```
 /// use teglyovash::{parse, Refusal};
@@ -47,7 +46,7 @@ pub struct Parsed {
 /// assert_eq!(parse(&[0x00, 0x71, 0x0f], &mut work, &mut record), Err(Refusal::IdZero));
 /// assert_eq!(parse(&unit[..2], &mut work, &mut record), Err(Refusal::IdZero));
 ///
-/// // a code does not: two layers, and the end cuts the first code behind six zeros, or there is nothing left of it
+/// // a code does not: two layers, and the end cuts the first code in its suffix, or leaves nothing of it
 /// let cut = [0x00, 0x71, 0x10, 0x40, 0x00, 0x48, 0x00, 0x02, 0x33, 0x40, 0x00, 0x02];
 /// assert_eq!(parse(&cut, &mut work, &mut record), Err(Refusal::CodePastEnd));
 /// assert_eq!(parse(&cut[..11], &mut work, &mut record), Err(Refusal::CodePastEnd));
