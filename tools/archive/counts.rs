@@ -102,9 +102,10 @@ impl Counted for Ruled {
         }
     }
 
-    // The longest units are made for the purpose.
+    // The longest units are made for the purpose, and so are those that end with a whole code.
     fn is_of_short_units(self) -> bool {
-        !matches!(self, Ruled::IdZeroTooLong | Ruled::CutCodeTooLong)
+        let long = matches!(self, Ruled::IdZeroTooLong | Ruled::CutCodeTooLong);
+        !long && !matches!(self, Ruled::CodeAtEndStopBit | Ruled::CodeAtEndRefused)
     }
 }
 
@@ -116,6 +117,11 @@ impl Counted for Left {
     fn name(self) -> &'static str {
         self.name()
     }
+
+    // Just so many zeros are made for the purpose.
+    fn is_of_short_units(self) -> bool {
+        self != Left::MostZeros
+    }
 }
 
 // Which code that is.
@@ -125,6 +131,11 @@ impl Counted for Name {
 
     fn name(self) -> &'static str {
         self.0
+    }
+
+    // Some are seldom read.
+    fn is_of_short_units(self) -> bool {
+        false
     }
 }
 
