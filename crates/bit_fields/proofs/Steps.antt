@@ -1,16 +1,17 @@
 -- What the fields rest on, over plain numbers.
 use Prim.Native.Nat.{ℕ, zero, suc, ◌+◌, ◌*◌, ◌-◌, ◌/◌, ◌%◌, ◌^◌, ◌≤◌, ◌<◌}
-use mathlib.Core.Path.{◌≡◌, refl, sym, ◌∙◌}
-use mathlib.Core.List.{List}
+use mathlib.Core.Path.{◌≡◌, refl, sym, ap, ◌∙◌}
+use mathlib.Core.List.{List, ◌++◌}
 use mathlib.Core.Bool.{Bool, true, false, cond}
 use native.Mathlib.Nat.{one-mul}
 use native.Mathlib.Omega.{arith}
 use lib.Dec.{ltb, lit<, lit≤}
-use lib.ListN.{length, get_or, drop}
+use lib.ListN.{length, get_or, take, drop}
+use Rattle.std.proofs.lemmas.List.{take-append-drop}
 use lib.Pow.{shl_exact, pow_mono}
 use Rattle.bits.specs.Bits.{field_at, field_width}
 use Rattle.bits.specs.RestLaws.{rest_field}
-use Rattle.bits.specs.FieldLaws.{field_lt, bit_past_end, field_split, field_within, field_byte}
+use Rattle.bits.specs.FieldLaws.{field_lt, bit_past_end, field_split, field_within, field_byte, field_agree, agree_append}
 
 -- the power that a shift of 1 gives
 pub one_shl : (k w : ℕ) → k < w → 1 * 2 ^ k % 2 ^ w ≡ 2 ^ k
@@ -55,6 +56,12 @@ module _ (s : List ℕ) (h : (j : ℕ) → get_or s j 0 < 256) where
       let f : field_at s 0 48 * 256 + get_or s 6 0 ≡ field_at s 0 56 = byte_more s 6 refl refl (h 6) in
       let g : field_at s 0 56 * 256 + get_or s 7 0 ≡ field_at s 0 64 = byte_more s 7 refl refl (h 7) in
       omega (arith, two_bytes, b, c, d, e, f, g)
+
+-- the bits of the first n bytes, where so many are there, are the list's
+pub first_bits : (s : List ℕ) (n : ℕ) → n ≤ length (take n s) → field_at (take n s) 0 (8 * n) ≡ field_at s 0 (8 * n)
+first_bits s n h =
+    field_agree (take n s) (take n s ++ drop n s) 0 (8 * n) (8 * n) (agree_append (take n s) (drop n s) (8 * n) (omega (arith, h))) (omega arith)
+    ∙ ap (λ (x : List ℕ). field_at x 0 (8 * n)) (take-append-drop n s)
 
 -- a field in the rest that begins with its byte
 pub field_in_rest : (s : List ℕ) {rest : List ℕ} (at w : ℕ) → rest ≡ drop (at / 8) s → field_at rest (at % 8) w ≡ field_at s at w

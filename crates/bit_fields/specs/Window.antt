@@ -15,14 +15,6 @@ window_start_le n i = go (ltb i (n - 8)) refl
     go true e = omega arith
     go false e = ltb-false i (n - 8) e
 
-pub window_start_inside : (n i : ℕ) → window_start n i ≤ n
-unfolding window_start
-window_start_inside n i = go (ltb i (n - 8)) refl
-  where
-    go : (t : Bool) → ltb i (n - 8) ≡ t → cond t i (n - 8) ≤ n
-    go true e = omega (arith, ltb-true i (n - 8) e)
-    go false e = omega arith
-
 -- the first eight bytes as one number, if so many are there
 abbrev pub IsFirst : List ℕ → Option ℕ → Type 0
 IsFirst s None = length s < 8
@@ -39,16 +31,7 @@ abbrev pub IsWindow : List ℕ → ℕ → Option (ℕ × ℕ) → Type 0
 IsWindow s at None = length s < 8
 IsWindow s at (Some w) = Laid s at w.0 w.1
 
--- from its start on fewer than eight bytes are there only where fewer are in all
-pub window_short : (n i : ℕ) → n - window_start n i < 8 → n < 8
-unfolding window_start
-window_short n i = go (ltb i (n - 8)) refl
-  where
-    go : (t : Bool) → ltb i (n - 8) ≡ t → n - cond t i (n - 8) < 8 → n < 8
-    go true e h = omega (arith, h, ltb-true i (n - 8) e)
-    go false e h = omega (arith, h)
-
--- and where so many are there it ends with the last byte or before it
+-- and then it ends with the last byte or before it
 pub window_ends_inside : (n i : ℕ) → 8 ≤ n → window_start n i + 8 ≤ n
 unfolding window_start
 window_ends_inside n i h = go (ltb i (n - 8)) refl

@@ -3,7 +3,7 @@
 
 ghost use Rattle.std.specs.Prelude.{◌≡◌, true, ◌+◌, ◌*◌, ◌-◌, ◌/◌, ◌%◌, ◌^◌, ◌<◌, ◌≤◌, length, get_or};
 ghost use Rattle.bits.specs.Bits.{bit_at, field_at, field_width};
-ghost use Rattle.bit_fields.specs.Window.{window_start, IsFirst, IsWindow};
+ghost use Rattle.bit_fields.specs.Window.{IsFirst, IsWindow};
 
 // The number of the first n bytes, the first of them highest; past the end each byte is 0.
 // As it is (3): a copy into a padded array, tried, has six registers saved on each read of over a bit, past the end or not.
@@ -30,21 +30,11 @@ fn pair(bytes: &[u8]) -> u32
     }
 }
 
-// Where the window of eight bytes starts in which byte i of n is looked for: there, or so far before that the window ends with
-// the last byte.
-fn window_start(n: usize, i: usize) -> usize
-    ensures { result ≡ window_start n i }
-{
-    i.min(n.saturating_sub(8))
-}
-
 // The 64 bits of the first eight bytes; none where there are fewer.
 fn window(bytes: &[u8]) -> Option<u64>
     ensures { IsFirst bytes.now result }
 {
-    let Some(eight) = bytes.first_chunk::<8>() else {
-        return None;
-    };
+    let eight = bytes.first_chunk::<8>()?;
     Some(u64::from_be_bytes(*eight))
 }
 
@@ -54,10 +44,9 @@ fn window(bytes: &[u8]) -> Option<u64>
 pub fn window_for(bytes: &[u8], at: usize) -> Option<(u64, usize)>
     ensures { IsWindow bytes.now at result }
 {
-    let start = window_start(bytes.len(), at / 8);
-    let Some(near) = window(&bytes[start..]) else {
-        return None;
-    };
+    let last = bytes.len().checked_sub(8)?;
+    let start = (at / 8).min(last);
+    let near = window(&bytes[start..start + 8])?;
     Some((near, at - 8 * start))
 }
 

@@ -55,20 +55,18 @@ impl Place<'_> {
         ensures { code_answer result ≡ code_at self.now.bytes.now self.now.at }
     {
         let at = self.at;
-        let Some((window, skipped)) = window_for(self.bytes, at) else {
-            return self.code_by_fields();
-        };
-        if 63 < skipped {
-            return self.code_by_fields();
+        if let Some((window, skipped)) = window_for(self.bytes, at)
+            && skipped <= 63
+        {
+            let rest = window << skipped;
+            let zeros = u64::leading_zeros(rest);
+            if 2 * zeros as usize <= 63 - skipped {
+                let code_num = (rest >> (63 - 2 * zeros)) as u32;
+                let next = at + 2 * zeros as usize + 1;
+                return Ok((code_num - 1, next));
+            }
         }
-        let rest = window << skipped;
-        let zeros = u64::leading_zeros(rest);
-        if 63 - skipped < 2 * zeros as usize {
-            return self.code_by_fields();
-        }
-        let code_num = (rest >> (63 - 2 * zeros)) as u32;
-        let next = at + 2 * zeros as usize + 1;
-        Ok((code_num - 1, next))
+        self.code_by_fields()
     }
 
     // Whether a one-bit stands behind the place's bit: in its byte, or in those behind it.
