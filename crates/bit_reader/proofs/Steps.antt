@@ -8,11 +8,11 @@ use native.Mathlib.Omega.{arith}
 use native.Mathlib.Numerals.{add-one}
 use borrow.Author.Tests.{ltb-true, ltb-false, lt-ltb, le-leb, eqb-true, eqb-false}
 use lib.Count.{count_leading_zeros, leading_of_zero, leading_top}
-use lib.Dec.{leb, ltb, lit<}
+use lib.Dec.{leb, ltb}
 use Rattle.std.proofs.lemmas.Bool.{lt-leb}
 use lib.ListN.{length, get_or, drop, replicate, length-replicate, drop_of_length-le}
 use lib.Seq.{drop-cons}
-use lib.Pow.{high, low, pow_pos, pow_mono, mod-pow-add, shl_exact, shl_lt, shl-shr, shr-shr}
+use lib.Pow.{high, low, pow_pos, pow_mono, mod-pow-add, shl_lt, shl-shr, shr-shr}
 use Rattle.std.specs.List.{list_any}
 use Rattle.std.proofs.Common.{nat_eq, not}
 use Rattle.refusals.specs.Number.{code_too_long, code_past_end}
@@ -44,15 +44,23 @@ bits_of_one_field : (s : List ℕ) (at k : ℕ) → field_at s at (suc k) ≡ 1 
 unfolding bits_of
 bits_of_one_field s at k e = rw (e, bits_of, bits_of_zero k) at (bits_field s at (suc k))
 
+-- a window without a one is 0
+no_one : (window : ℕ) → window < 2 ^ 32 → count_leading_zeros 32 window ≡ 32 → window ≡ 0
+no_one zero l z = refl
+no_one (suc w) l z = let t = leading_top 32 (suc w) (omega arith) l in absurd (omega (arith, z, t.1))
+
+zeros_only : (s : List ℕ) (at : ℕ) {window : ℕ} → window ≡ field_at s at 32 → count_leading_zeros 32 window ≡ 32 → field_at s at 32 ≡ 0
+zeros_only s at {window} w z = sym w ∙ no_one window (omega (arith, w, field_lt s at 32)) z
+
 -- 32 zeros are no code
-pub no_code : (s : List ℕ) (at : ℕ) → field_at s at 32 ≡ 0 → at + 31 < 8 * length s → code_at s at ≡ refused code_too_long
+pub no_code : (s : List ℕ) (at : ℕ) {window : ℕ} → window ≡ field_at s at 32 → count_leading_zeros 32 window ≡ 32 → at + 31 < 8 * length s → code_at s at ≡ refused code_too_long
 unfolding code_at
-no_code s at e h = rw (zeros_all s at 32 (omega arith) (bits_of_zero_field s at 32 e)) refl
+no_code s at w z h = rw (zeros_all s at 32 (omega arith) (bits_of_zero_field s at 32 (zeros_only s at w z))) refl
 
 -- fewer, up to the end, are the prefix of a code that the end cuts
-pub zeros_cut : (s : List ℕ) (at : ℕ) → field_at s at 32 ≡ 0 → 8 * length s ≤ at + 31 → code_at s at ≡ refused code_past_end
+pub zeros_cut : (s : List ℕ) (at : ℕ) {window : ℕ} → window ≡ field_at s at 32 → count_leading_zeros 32 window ≡ 32 → 8 * length s ≤ at + 31 → code_at s at ≡ refused code_past_end
 unfolding code_at code_behind
-zeros_cut s at e l = rw (counted (ltb at (8 * length s)) refl, lt-ltb n 32 (omega arith), lt-leb (at + n + 1 + n) (8 * length s) (omega arith)) refl
+zeros_cut s at w z l = rw (counted (ltb at (8 * length s)) refl, lt-ltb n 32 (omega arith), lt-leb (at + n + 1 + n) (8 * length s) (omega arith)) refl
   where
     n : ℕ
     n = 8 * length s - at
@@ -60,7 +68,7 @@ zeros_cut s at e l = rw (counted (ltb at (8 * length s)) refl, lt-ltb n 32 (omeg
     zeros : field_at s at n ≡ 0
     zeros =
         let m : n + (32 - n) ≡ 32 = omega arith in
-        sym (rw m at (field_high s at n (32 - n))) ∙ rw (e, zero-div (2 ^ (32 - n))) refl
+        sym (rw m at (field_high s at n (32 - n))) ∙ rw (zeros_only s at w z, zero-div (2 ^ (32 - n))) refl
 
     counted : (t : Bool) → ltb at (8 * length s) ≡ t → zeros_at s at 32 ≡ n
     counted true f = let g = ltb-true at (8 * length s) f in zeros_to_end s at 32 n (omega arith) (omega arith) (bits_of_zero_field s at n zeros)
@@ -99,11 +107,6 @@ top_is_one : (a j : ℕ) → 2 ^ j ≤ a → a < 2 ^ suc j → a / 2 ^ j ≡ 1
 top_is_one a j f g =
     let x : 1 * 2 ^ j + (a - 2 ^ j) ≡ a = omega arith in
     rw x at (high 1 j {lo = a - 2 ^ j} (omega (arith, two-pow-succ j)))
-
--- a window without a one is 0
-pub no_one : (window : ℕ) → window < 2 ^ 32 → count_leading_zeros 32 window ≡ 32 → window ≡ 0
-no_one zero l z = refl
-no_one (suc w) l z = let t = leading_top 32 (suc w) (omega arith) l in absurd (omega (arith, z, t.1))
 
 pub first_one : (s : List ℕ) (at window : ℕ) → window ≡ field_at s at 32 → (count_leading_zeros 32 window ≡ 32 → ⊥) → FirstOne s at (count_leading_zeros 32 window)
 first_one s at window e m = let n = λ (z : window ≡ 0). m (ap (count_leading_zeros 32) z ∙ leading_of_zero 32) in let t = leading_top 32 window (omega arith) (omega (arith, field_lt s at 32)) in go (count_leading_zeros 32 window) t.0 t.1 (omega (arith, t.2)) (omega (arith, t.3))
