@@ -1,1 +1,3 @@
+pub mod CodeLaws
 pub mod LastOne
+pub mod WriteLaws

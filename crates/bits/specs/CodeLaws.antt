@@ -1,4 +1,4 @@
--- Laws of codes: which bits they are, and what they read as.
+-- Laws of codes: which bits they are, and what is read where they stand.
 use Rattle.std.specs.Prelude.{ℕ, zero, suc, ◌+◌, ◌*◌, ◌-◌, ◌/◌, ◌^◌, ◌≤◌, ◌<◌, ◌≡◌, refl, List, [], ◌∷◌, ◌++◌, Bool, true, false, cond, ◌&&◌, ltb, leb, eqb, length, replicate}
 use Rattle.std.proofs.Common.{sym, ap, ◌∙◌, append_assoc, add-zero, arith, lit<, length-append, pow_mono, ltb-true, ltb-false, leb-true, eqb-true, lt-ltb, le-ltb, le-leb, eq-eqb, ne_eqb}
 use Rattle.std.proofs.Math.Nat.{two-pow-succ, one-le-pow, div-eq_of_lt}
@@ -11,7 +11,7 @@ use Rattle.refusals.specs.Number.{code_too_long, code_past_end}
 use Rattle.bits.specs.Bits.{bit_at, field_at, bits_of}
 use Rattle.bits.specs.Code.{zeros_at, code_behind, code_at, prefix_length, code_of}
 use Rattle.bits.specs.Code.Taken.{taken, refused}
-use Rattle.bits.specs.FieldLaws.{bit_lt, field_lt, BitsAt, bits_left, bits_right, bits_join, bits_length, field_bits, bits_field, bits_first, bits_split, bits_over, bits_of_zero}
+use Rattle.bits.specs.FieldLaws.{bit_lt, field_lt, BitsAt, bits_join, bits_length, bits_field, bits_first, bits_split, bits_over, bits_of_zero}
 
 -- ── The prefix of zeros ───────────────────────────────────────────────
 -- k zeros and then a one: k zeros are counted
@@ -142,22 +142,6 @@ code_is_field v h =
 pub code_at_lem : (s : List ℕ) (at k : ℕ) → k < 32 → at + k + 1 + k ≤ 8 * length s → BitsAt s at (replicate k 0 ++ (1 ∷ [])) → code_at s at ≡ taken (2 ^ k - 1 + field_at s (at + k + 1) k) (at + k + 1 + k)
 unfolding code_at code_behind
 code_at_lem s at k f g h = rw (zeros_found s at 32 k f (omega arith) h, lt-ltb k 32 f, le-leb (at + k + 1 + k) (8 * length s) g) refl
-
--- the code of v reads as v
-pub code_bits : (s : List ℕ) (at v : ℕ) → v < 4294967295 → at + length (code_of v) ≤ 8 * length s → BitsAt s at (code_of v) → code_at s at ≡ taken v (at + length (code_of v))
-unfolding code_of
-code_bits s at v f g h =
-    let k : ℕ = prefix_length v in
-    let b = prefix_of v f in
-    let l = code_length v in
-    let c = code_at_lem s at k b.short (omega arith) (bits_left s at (replicate k 0 ++ (1 ∷ [])) _ h) in
-    let n : length {A = ℕ} (replicate k 0 ++ (1 ∷ [])) ≡ k + 1 = simp (length-append, length-replicate) refl in
-    let r : BitsAt s (at + (k + 1)) (bits_of k (v + 1 - 2 ^ k)) = rw n at (bits_right s at (replicate k 0 ++ (1 ∷ [])) _ h) in
-    let q : at + (k + 1) ≡ at + k + 1 = omega arith in
-    let d : field_at s (at + k + 1) k ≡ v + 1 - 2 ^ k = field_bits s (at + k + 1) k (v + 1 - 2 ^ k) (omega (arith, two-pow-succ k)) (rw q at r) in
-    let e : 2 ^ k - 1 + field_at s (at + k + 1) k ≡ v = omega arith in
-    let o : at + k + 1 + k ≡ at + length (code_of v) = omega arith in
-    c ∙ rw (e, o) refl
 
 -- the code of 2 ^ k - 1 + f, f below 2 ^ k, is k zeros, a one and f's k bits
 pub code_of_lem : (k f : ℕ) → k < 32 → f < 2 ^ k → code_of (2 ^ k - 1 + f) ≡ replicate k 0 ++ (1 ∷ []) ++ bits_of k f

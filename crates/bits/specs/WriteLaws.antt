@@ -11,13 +11,11 @@ use Rattle.std.proofs.Math.Pow as Pow
 use Rattle.std.proofs.lemmas.Bool.{eqb-false}
 use Rattle.refusals.specs.Answer.Answer.{success, refusal}
 use Rattle.bits.specs.Bits.{weight, bit_at, field_at, bits_of, with_bit, set_bit, set_bits}
-use Rattle.bits.specs.Code.{code_at, code_of}
 use Rattle.bits.specs.Code.Taken.{taken}
-use Rattle.bits.specs.Reading.{place_good, read_field, read_code}
-use Rattle.bits.specs.Writing.{has_room, write_bits, buffer_after, field_good, code_good}
+use Rattle.bits.specs.Reading.{place_good, read_field}
+use Rattle.bits.specs.Writing.{has_room, write_bits, buffer_after, field_good}
 use Rattle.bits.specs.FieldLaws.{BitsAt, bits_length, field_bits}
-use Rattle.bits.specs.CodeLaws.{code_bits, code_length}
-use Rattle.bits.specs.ByteLaws.{AllBits, all_bits, all_code}
+use Rattle.bits.specs.ByteLaws.{AllBits, all_bits}
 
 less : (a b : ℕ) → (a < b) ⊎ (b ≤ a)
 less a b = go (ltb a b) refl where
@@ -183,12 +181,12 @@ untouched true out at b hb i o = go b hb o (leb (at + length b) (8 * length out)
     go (x ∷ b) hb o false g = rw (eqb-suc-zero (length b)) refl
 
 -- bits written stand there
-stand : (out : List ℕ) (at : ℕ) (b : List ℕ) → AllBits b → (length b ≡ 0) ⊎ (at + length b ≤ 8 * length out) → BitsAt (set_bits out at b) at b
+pub stand : (out : List ℕ) (at : ℕ) (b : List ℕ) → AllBits b → (length b ≡ 0) ⊎ (at + length b ≤ 8 * length out) → BitsAt (set_bits out at b) at b
 stand out at [] hb o = tt
 stand out at (x ∷ b) hb (inl e) = absurd (omega arith)
 stand out at (x ∷ b) hb (inr l) = set_inside out at (x ∷ b) hb l
 
-both : (a b : Bool) → (a && b) ≡ true → (a ≡ true) × (b ≡ true)
+pub both : (a b : Bool) → (a && b) ≡ true → (a ≡ true) × (b ≡ true)
 both true true e = (refl, refl)
 both true false e = absurd (let n : ◌≡◌ {A = ℕ} 0 1 = cc in omega arith)
 both false b e = absurd (let n : ◌≡◌ {A = ℕ} 0 1 = cc in omega arith)
@@ -204,17 +202,3 @@ field_reads_back out at v w next e =
     let n : at + w ≡ next = sym (x.behind ∙ ap (λ (n : ℕ). at + n) (bits_length w v)) in
     let f : field_at (set_bits out at (bits_of w v)) at w ≡ v = field_bits (set_bits out at (bits_of w v)) at w v (ltb-true v (2 ^ w) h.1) (stand out at (bits_of w v) (all_bits w v) x.room) in
     rw (x.after, h.0, g.1, f, n) refl
-
-some : (v : ℕ) → length (code_of v) ≡ 0 → ⊥
-some v e = omega (arith, code_length v)
-
--- and so does a code
-pub code_reads_back : (out : List ℕ) (at v next : ℕ) → write_bits (code_good at v) out at (code_of v) ≡ success next
-    → read_code (buffer_after (code_good at v) out at (code_of v)) at ≡ taken v next
-unfolding read_code
-code_reads_back out at v next e =
-    let x = written (code_good at v) out at (code_of v) next e in
-    let g = both (ltb v 4294967295) (place_good at) x.valid in
-    let room : at + length (code_of v) ≤ 8 * length (set_bits out at (code_of v)) = ⊎_elim (λ z. absurd (some v z)) (λ l. omega (arith, length_set_bits out at (code_of v))) x.room in
-    let c : code_at (set_bits out at (code_of v)) at ≡ taken v (at + length (code_of v)) = code_bits (set_bits out at (code_of v)) at v (ltb-true v 4294967295 g.0) room (stand out at (code_of v) (all_code v) x.room) in
-    rw (x.after, g.1, c, x.behind) refl

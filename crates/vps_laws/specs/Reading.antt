@@ -6,7 +6,8 @@ use Rattle.bits.specs.Bits.{to_boundary}
 use Rattle.bits.specs.Code.{code_at, code_of}
 use Rattle.bits.specs.Code.Taken.{taken}
 use Rattle.bits.specs.FieldLaws.{Agree, field_agree, bits_agree}
-use Rattle.bits.specs.CodeLaws.{code_bits, Whole, code_whole, code_near}
+use Rattle.bits.specs.CodeLaws.{Whole, code_whole, code_near}
+use Rattle.bits.proofs.CodeLaws.{code_bits}
 use Rattle.vps_definition.specs.Syntax.{Syntax, Token, run, Span, spans}
 use Rattle.vps_definition.specs.Syntax.Outcome.{accepted}
 use Rattle.vps_laws.specs.Inversion.{Reads, run_reads, reads_run, read_field_as, read_late_as}

@@ -8,7 +8,7 @@ use Rattle.bits.specs.Bits.{bits_of, to_boundary}
 use Rattle.bits.specs.Code.{code_at, code_of}
 use Rattle.bits.specs.Code.Taken.{taken}
 use Rattle.bits.specs.FieldLaws.{BitsAt, bits_left, bits_right, bits_length, field_bits, bits_of_zero}
-use Rattle.bits.specs.CodeLaws.{code_bits}
+use Rattle.bits.proofs.CodeLaws.{code_bits}
 use Rattle.bits.specs.ByteLaws.{AllBits, all_join, all_zeros, all_bits, all_code}
 use Rattle.vps_definition.specs.Syntax.{Syntax, Token, numbers, run, emit}
 use Rattle.vps_definition.specs.Syntax.Syntax.{align}
