@@ -76,7 +76,7 @@ fn short_field(bytes: &[u8], skipped: u32, width: u32) -> u32
 }
 
 // The field of a width, 32 at the most, at any place; its bits past the end are 0. Where the width is known, compilers keep
-// only its own way. A wide field stands in the window that is laid for it, or else reaches past the end.
+// only its own way. A wide field stands in the window that is laid for it, or else reaches past the end or has no window.
 // As it is (6): a place among bits is what is asked for, and the window may begin before the place's byte.
 // As it is (2): a short field's rest was tried by `lists::behind`, which adds the choice of an empty rest's address to each read.
 pub fn field_at(bytes: &[u8], at: usize, width: u32) -> u32
