@@ -67,14 +67,17 @@ pub fn units_of_each_end(seed: u64, longest: usize, each: usize) -> Vec<Vec<u8>>
     let asked = asked_ends();
     while asked.iter().any(|end| taken.get(end).is_none_or(|units| units.len() < each)) {
         let draft = Draft::of(&maker.structure(*modes.next().expect("they come again")));
-        for (end, unit) in one_of_each_end(&draft, &mut maker.random) {
-            let units = taken.entry(end).or_default();
-            if unit.len() <= longest && units.len() < each && !units.contains(&unit) {
-                units.push(unit);
-            }
-        }
+        let mut made = one_of_each_end(&draft, &mut maker.random);
+        made.retain(|_, unit| unit.len() <= longest);
+        made.into_iter().for_each(|(end, unit)| take(taken.entry(end).or_default(), unit, each));
     }
     taken.into_values().flatten().collect()
+}
+
+fn take(units: &mut Vec<Vec<u8>>, unit: Vec<u8>, each: usize) {
+    if units.len() < each && !units.contains(&unit) {
+        units.push(unit);
+    }
 }
 
 // Of the units that end in a code of a draft at most one for each code and each way.

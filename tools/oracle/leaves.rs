@@ -451,18 +451,7 @@ impl Leaves {
                 }
             }
         }
-        // so many zeros, then the end or a one
-        for zeros in 0..=40u64 {
-            let length = bytes_for(zeros) + 1;
-            let mut bytes = vec![255; length];
-            let at = 8 * length as u64 - zeros;
-            for i in at..8 * length as u64 {
-                bytes[(i / 8) as usize] &= !(1 << (7 - i % 8));
-            }
-            self.read_case(CODE, &bytes, at, 0);
-            bytes.extend([255; 5]);
-            self.read_case(CODE, &bytes, at, 0);
-        }
+        (0..=40).for_each(|zeros| self.read_zeros(zeros));
         for zeros in [31, 32, 33] {
             for at in 0..8 {
                 let mut bytes = self.code_bits(at, zeros, Some(true));
@@ -488,14 +477,25 @@ impl Leaves {
         self.list.end_of_kind("read_code");
     }
 
-    // Zeros alone from each place of a byte to the end, 31 and 32 among them, and the end and places behind it.
-    fn read_ends(&mut self) {
-        for at in 0..8 {
-            (1..=6).for_each(|length| self.read_case(CODE, &vec![0; length], at, 0));
+    // So many zeros, then the end or a one.
+    fn read_zeros(&mut self, zeros: u64) {
+        let length = bytes_for(zeros) + 1;
+        let mut bytes = vec![255; length];
+        let at = 8 * length as u64 - zeros;
+        for i in at..8 * length as u64 {
+            bytes[(i / 8) as usize] &= !(1 << (7 - i % 8));
         }
-        for length in 1..=5 {
-            let end = 8 * length as u64;
-            (end..=end + 9).for_each(|at| self.read_case(CODE, &vec![255; length], at, 0));
+        self.read_case(CODE, &bytes, at, 0);
+        bytes.extend([255; 5]);
+        self.read_case(CODE, &bytes, at, 0);
+    }
+
+    // Zeros alone from each place of a byte to the end, 31 and 32 among them; the end, and places behind it.
+    fn read_ends(&mut self) {
+        let zeros = (0..8).flat_map(|at| (1..=6).map(move |length| (at, vec![0; length])));
+        let from_end = |length| (8 * length..=8 * length + 9).map(move |at| (at as u64, vec![255; length]));
+        for (at, bytes) in zeros.chain((1..=5).flat_map(from_end)) {
+            self.read_case(CODE, &bytes, at, 0);
         }
     }
 
