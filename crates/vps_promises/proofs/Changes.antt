@@ -4,8 +4,7 @@ use Rattle.std.specs.Prelude.{ℕ, ◌+◌, ◌/◌, ◌≤◌, ◌<◌, ◌≡�
 use Rattle.std.proofs.Common.{sym, ap, ◌∙◌, arith}
 use Rattle.std.proofs.lemmas.List.Edits.{sets}
 use Rattle.refusals.specs.Answer.Answer.{success, refusal}
-use Rattle.refusals.specs.Number.{work_too_short, sublayers_reserved, stop_bit_zero, not_well_formed, id_zero, code_past_end}
-use Rattle.lists.specs.Stored.{overlaid}
+use Rattle.refusals.specs.Number.{sublayers_reserved, stop_bit_zero, not_well_formed, id_zero, code_past_end}
 use Rattle.stuffing.specs.Stuffing.{unstuff}
 use Rattle.bits.specs.Bits.{field_at}
 use Rattle.vps_definition.specs.Rules.{today, taking_id}
@@ -13,16 +12,15 @@ use Rattle.vps_definition.specs.Record.{start_of}
 use Rattle.vps_definition.specs.Layout.{extension_in}
 use Rattle.vps_definition.specs.Reading.{most_rbsp_bytes, vps_nut, read_unit_under, read_unit}
 use Rattle.vps_definition.specs.Reading.Reading.{accepts, refuses}
-use Rattle.vps_definition.specs.Writing.{all_flags, write_record_under, write_record, well_formed}
+use Rattle.vps_definition.specs.Writing.{all_flags, write_record_under, well_formed}
 use Rattle.vps_laws.specs.Units.{not_accepts}
 use Rattle.vps_laws.specs.Claims.{refused_ill_formed, well_formed_written}
 use Rattle.vps_laws.specs.LongerExtension.{unit_with_shorter_extension}
 use Rattle.vps_laws.specs.CutCodes.{unit_with_cut_codes}
 use Rattle.vps_laws.proofs.Changes as Changed
-use Rattle.vps_reader.specs.Parse.{parse_number}
 use Rattle.vps_writer.specs.Write.{written_answer}
-use Rattle.vps_promises.specs.Calls.{Unpacked, leaves_unpacked, ReadCall, said, ReadRoom, Reads, Refuses, Early, WriteCall, WriteRoom, Puts, not_success, accepted_reads, refused_refuses, refuses_refused, refused_leaves, puts_written, written_puts, refused_leaves_output, ill_formed_refuses}
-use Rattle.vps_promises.proofs.Calls.{reads_accepted}
+use Rattle.vps_promises.specs.Calls.{Unpacked, ReadCall, ReadRoom, Reads, Refuses, WriteCall, WriteRoom, Puts, not_success, accepted_reads, refused_refuses, refuses_refused, puts_written, written_puts, refused_leaves_output, ill_formed_refuses}
+use Rattle.vps_promises.proofs.Calls.{reads_accepted, leaves_unpacked}
 
 -- ── Extension bits run up to the last one-bit ─────────────────────────
 -- A unit that was accepted is read with the same record and bits used, and one that is refused was refused with the same number.

@@ -1,5 +1,5 @@
 -- Calls of parse_vps and write_vps_nal, by their contracts: a call is what went in, what it answered and what it left.
-use Rattle.std.specs.Prelude.{ℕ, ◌+◌, ◌/◌, ◌≤◌, ◌<◌, List, [], ◌∷◌, ◌++◌, Bool, eqb, length, take, drop, Result}
+use Rattle.std.specs.Prelude.{ℕ, ◌/◌, ◌≤◌, ◌<◌, List, [], ◌∷◌, ◌++◌, Bool, eqb, length, take, drop, Result}
 use Rattle.std.proofs.Math.Path.{◌≡◌, refl, ap, subst⁻¹}
 use Rattle.std.proofs.Common.{sym, ◌∙◌, subst, arith, length-append, length-drop}
 use Rattle.std.proofs.Math.Bool.{true, false, cond}
@@ -404,11 +404,6 @@ late_fills_work {u} c h = go (way u c.work c.rec)
 -- is as before
 abbrev pub Unpacked : {u : List ℕ} → ReadCall u → Type 0
 Unpacked {u} c = (length (unstuff (drop 2 u)) ≤ length c.work) × (c.work_after ≡ overlaid (unstuff (drop 2 u)) c.work) × (c.rec_after ≡ c.rec)
-
-pub leaves_unpacked : {u : List ℕ} (c : ReadCall u) {k : ℕ} → Refuses c k → work_too_short < k → Unpacked c
-leaves_unpacked c {k} N l =
-    let W = late_fills_work c (λ e. omega (arith, e.1, N.numbered, l)) in
-    (W.0, W.1, refused_leaves c (λ m n e. let z : said c ≡ 0 = ap parse_number e in omega (arith, z, N.numbered, N.some)))
 
 -- ── The writer and its definition ─────────────────────────────────────
 pub not_success : {A : Type 0} {k n : ℕ} → ◌≡◌ {A = Answer ℕ} (refusal k) (success n) → A
