@@ -1,6 +1,5 @@
 -- The code's answer may have another type than the table's: it stands for the table's by a relation of the two.
 use Rattle.std.specs.Prelude.{ℕ, ◌≡◌, List, Result, Ok, Err}
-use Rattle.std.proofs.Common.{MutBor}
 use Rattle.refusals.specs.declared.refusal.Refusal.{Refusal}
 use Rattle.vps_definition.specs.Syntax.{Syntax}
 use Rattle.vps_definition.specs.Words.{sum}
@@ -14,6 +13,6 @@ Gives {B = B} goes R m s (Err e) s' = goes B m s (Err e) s'
 abbrev pub IsSum : ℕ → List ℕ → Type 0
 IsSum n l = n ≡ sum l
 
--- each call of a step goes along the table
-abbrev pub GoesAlong : {S : Type 0} → (Syntax (Unit {0}) → S → Result (Unit {0}) Refusal → S → Type 0) → Syntax (Unit {0}) → (MutBor S → Result (Unit {0}) Refusal → MutBor S → Type 0) → Type 0
-GoesAlong {S} goes m step = (x y : MutBor S) (r : Result (Unit {0}) Refusal) → step x r y → goes m x.now r y.now
+-- wherever a step leads, it goes along the table
+abbrev pub GoesAlong : {S : Type 0} → (Syntax (Unit {0}) → S → Result (Unit {0}) Refusal → S → Type 0) → Syntax (Unit {0}) → (S → Result (Unit {0}) Refusal → S → Type 0) → Type 0
+GoesAlong {S} goes m leads = (x y : S) (r : Result (Unit {0}) Refusal) → leads x r y → goes m x r y

@@ -115,36 +115,50 @@ pub trait Steps {
     }
 }
 
-// So many times the same, up to a refusal: each call of `step` goes along the table that is repeated.
+// A step of a walk, with an answer: it may be taken at every state.
+pub trait Step<S, A>: Copy {
+    // From a state, the step leads to an answer and a state.
+    ghost leads: { Self → S → Result A Refusal → S → Type 0 };
+
+    fn go(&self, steps: &mut S) -> Result<A, Refusal>
+        ensures { leads self.now steps.old result steps.new };
+}
+
+// So many times the same, up to a refusal: wherever `step` leads, it goes along the table that is repeated.
 #[inline]
-pub fn repeat<S: Steps, F: Fn(&mut S) -> Result<(), Refusal>>(
-    steps: &mut S,
-    n: u64,
-    step: F,
-) -> Result<(), Refusal>
-    requires { F.IsAlwaysCallable step }
-    ensures { (m : Syntax (Unit {0})) → GoesAlong (S.goes (Unit {0})) m (F.post step) → S.goes (Unit {0}) (repeat n m) steps.old result steps.new }
+pub fn repeat<S: Steps, T: Step<S, ()>>(steps: &mut S, n: u64, step: T) -> Result<(), Refusal>
+    ensures { (m : Syntax (Unit {0})) → GoesAlong (S.goes (Unit {0})) m (T.leads step) → S.goes (Unit {0}) (repeat n m) steps.old result steps.new }
 {
     for _ in 0..n {
-        step(steps)?;
+        step.go(steps)?;
     }
     Ok(())
 }
 
-// A table where a flag is 1, else nothing: the call of `step` goes along the table.
+// A table where a flag is 1, else nothing: wherever `step` leads, it goes along the table.
 #[inline]
-pub fn when<S: Steps, F: FnOnce(&mut S) -> Result<(), Refusal>>(
-    steps: &mut S,
-    flag: u32,
-    step: F,
-) -> Result<(), Refusal>
-    requires { F.IsAlwaysCallable step }
-    ensures { (m : Syntax (Unit {0})) → GoesAlong (S.goes (Unit {0})) m (F.post step) → S.goes (Unit {0}) (when flag m) steps.old result steps.new }
+pub fn when<S: Steps, T: Step<S, ()>>(steps: &mut S, flag: u32, step: T) -> Result<(), Refusal>
+    ensures { (m : Syntax (Unit {0})) → GoesAlong (S.goes (Unit {0})) m (T.leads step) → S.goes (Unit {0}) (when flag m) steps.old result steps.new }
 {
     if flag == 0 {
         return Ok(());
     }
-    step(steps)
+    step.go(steps)
+}
+
+// A field that only the record keeps.
+#[derive(Clone, Copy)]
+struct KeptField {
+    width: u32,
+}
+
+impl<S: Steps> Step<S, ()> for KeptField {
+    ghost leads = { λ f s r s'. S.goes (Unit {0}) (kept_field (field_width f.width)) s r s' };
+
+    fn go(&self, steps: &mut S) -> Result<(), Refusal> {
+        steps.u(self.width)?;
+        Ok(())
+    }
 }
 
 // Fields of a width up to 32, one after another.
@@ -152,8 +166,5 @@ pub fn when<S: Steps, F: FnOnce(&mut S) -> Result<(), Refusal>>(
 pub fn fields<S: Steps>(steps: &mut S, count: u32, width: u32) -> Result<(), Refusal>
     ensures { S.goes (Unit {0}) (repeat count (kept_field (field_width width))) steps.old result steps.new }
 {
-    repeat(steps, count as u64, |steps| {
-        steps.u(width)?;
-        Ok(())
-    })
+    repeat(steps, count as u64, KeptField { width })
 }

@@ -7,7 +7,7 @@ ghost use Rattle.vps_definition.specs.DpbParameters.{dpb_sublayer, per_sublayer,
 
 use record_parts::Record;
 use refusals::Refusal;
-use table_steps::Steps;
+use table_steps::{Step, Steps};
 use vps_entries::Indices;
 use vps_fields::Header;
 
@@ -23,11 +23,38 @@ fn dpb_sublayer<S: Steps>(steps: &mut S) -> Result<(), Refusal>
     Ok(())
 }
 
+// The triple, as a step.
+#[derive(Clone, Copy)]
+struct DpbSublayer;
+
+impl<S: Steps> Step<S, ()> for DpbSublayer {
+    ghost leads = { λ step. S.goes (Unit {0}) dpb_sublayer };
+
+    fn go(&self, steps: &mut S) -> Result<(), Refusal> {
+        dpb_sublayer(steps)
+    }
+}
+
 // A DPB slot: its max tid, and then the triples of its sublayers, up to a refusal.
 fn dpb_slot<S: Steps>(steps: &mut S, header: Header, flag: u32) -> Result<(), Refusal>
     ensures { S.goes (Unit {0}) (per_sublayer header.default_max_tid_flag header.max_sublayers_minus1 dpb_max_tid flag dpb_sublayer) steps.old result steps.new }
 {
-    vps_entries::per_sublayer(steps, header, flag, Refusal::DpbMaxTid, dpb_sublayer)
+    vps_entries::per_sublayer(steps, header, flag, Refusal::DpbMaxTid, DpbSublayer)
+}
+
+// The slot, as a step.
+#[derive(Clone, Copy)]
+struct DpbSlot {
+    header: Header,
+    flag: u32,
+}
+
+impl<S: Steps> Step<S, ()> for DpbSlot {
+    ghost leads = { λ step. S.goes (Unit {0}) (per_sublayer step.header.default_max_tid_flag step.header.max_sublayers_minus1 dpb_max_tid step.flag dpb_sublayer) };
+
+    fn go(&self, steps: &mut S) -> Result<(), Refusal> {
+        dpb_slot(steps, self.header, self.flag)
+    }
 }
 
 // The picture size of a multi-layer set, and its DPB slot.
@@ -55,7 +82,7 @@ pub fn dpb_section<S: Steps>(steps: &mut S, header: Header, multi: u32) -> Resul
     steps.check(slots <= multi, Refusal::DpbSlots)?;
     let sublayers = 0 < header.max_sublayers_minus1;
     let flag = steps.general_if(sublayers, Record::SUBLAYER_DPB_PARAMS_PRESENT_FLAG, 1, 0)?;
-    table_steps::repeat(steps, slots as u64, |steps| dpb_slot(steps, header, flag))?;
+    table_steps::repeat(steps, slots as u64, DpbSlot { header, flag })?;
     let _sets = steps.infer(multi)?;
     for i in 0..multi {
         ols_dpb(steps, slots, multi, i)?;

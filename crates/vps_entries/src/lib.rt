@@ -12,7 +12,7 @@ ghost use Rattle.table_steps.specs.Answers.{GoesAlong};
 ghost use Rattle.vps_entries.specs.MaxTid.{max_tid};
 
 use refusals::Refusal;
-use table_steps::Steps;
+use table_steps::{Step, Steps};
 use vps_fields::Header;
 
 // What the schedules go by: the flags of general_timing_hrd_parameters() and its schedule count.
@@ -117,16 +117,15 @@ pub fn max_tid<S: Steps>(steps: &mut S, header: Header, refusal: Refusal) -> Res
     Ok(tid)
 }
 
-// An entry: its max tid, and then its sublayers, each of which a call of `sublayer` goes along.
-pub fn per_sublayer<S: Steps, F: Fn(&mut S) -> Result<(), Refusal>>(
+// An entry: its max tid, and then its sublayers: wherever `sublayer` leads, it goes along one.
+pub fn per_sublayer<S: Steps, T: Step<S, ()>>(
     steps: &mut S,
     header: Header,
     flag: u32,
     refusal: Refusal,
-    sublayer: F,
+    sublayer: T,
 ) -> Result<(), Refusal>
-    requires { F.IsAlwaysCallable sublayer }
-    ensures { (body : Syntax (Unit {0})) → GoesAlong (S.goes (Unit {0})) body (F.post sublayer) → S.goes (Unit {0}) (per_sublayer header.default_max_tid_flag header.max_sublayers_minus1 (number_of refusal) flag body) steps.old result steps.new }
+    ensures { (body : Syntax (Unit {0})) → GoesAlong (S.goes (Unit {0})) body (T.leads sublayer) → S.goes (Unit {0}) (per_sublayer header.default_max_tid_flag header.max_sublayers_minus1 (number_of refusal) flag body) steps.old result steps.new }
 {
     let tid = max_tid(steps, header, refusal)?;
     table_steps::repeat(steps, turns(flag, tid), sublayer)

@@ -1,6 +1,6 @@
 -- Flags of layers that are gone along one by one, held as the mask of those that are 1.
 use Rattle.std.specs.Prelude.{ℕ, ◌+◌, ◌<◌, ◌≤◌, ◌≡◌, refl, List, [], ◌∷◌, ◌++◌, length, Result, Ok, Err, IfOk}
-use Rattle.std.proofs.Common.{arith, ap, ◌∙◌, length-append, MutBor}
+use Rattle.std.proofs.Common.{arith, ap, ◌∙◌, length-append}
 use Rattle.refusals.specs.declared.refusal.Refusal.{Refusal}
 use Rattle.vps_definition.specs.Syntax.{Syntax}
 use Rattle.vps_definition.specs.Words.{loop}
@@ -18,10 +18,14 @@ pub record FlagsMet (n mask : ℕ) (flags : List ℕ) : Type 0 where
   pub held : Held flags mask
   pub short : length flags ≤ n
 
--- a step's answer is a flag, and the table's loop appends it in each turn
-pub record IsFlag {S : Type 0} (goes : (A : Type 0) → Syntax A → S → Result A Refusal → S → Type 0) (f : ℕ → List ℕ → Syntax (List ℕ)) (step : MutBor S → Result ℕ Refusal → MutBor S → Type 0) : Type 0 where
-  pub gives : (x y : MutBor S) (r : Result ℕ Refusal) → step x r y → (j : ℕ) (flags : List ℕ) → Gives goes (Appended flags) (f j flags) x.now r y.now
-  pub within : (x y : MutBor S) (r : Result ℕ Refusal) → step x r y → IfOk r (λ v. v < 2)
+-- an answer is a flag, and the table's loop appends it, whatever turn it is
+pub record FlagGiven {S : Type 0} (goes : (A : Type 0) → Syntax A → S → Result A Refusal → S → Type 0) (f : ℕ → List ℕ → Syntax (List ℕ)) (s : S) (r : Result ℕ Refusal) (s' : S) : Type 0 where
+  pub gives : (j : ℕ) (flags : List ℕ) → Gives goes (Appended flags) (f j flags) s r s'
+  pub within : IfOk r (λ v. v < 2)
+
+-- so it is wherever a step leads
+abbrev pub IsFlag : {S : Type 0} (goes : (A : Type 0) → Syntax A → S → Result A Refusal → S → Type 0) (f : ℕ → List ℕ → Syntax (List ℕ)) (leads : S → Result ℕ Refusal → S → Type 0) → Type 0
+IsFlag {S} goes f leads = (x y : S) (r : Result ℕ Refusal) → leads x r y → FlagGiven goes f x r y
 
 -- behind turn j of a loop that appends a flag in each
 pub record FlagsSoFar {S : Type 0} (goes : (A : Type 0) → Syntax A → S → Result A Refusal → S → Type 0) (f : ℕ → List ℕ → Syntax (List ℕ)) (j : ℕ) (s : S) (mask : ℕ) (s' : S) : Type 0 where

@@ -10,11 +10,11 @@ ghost use Rattle.vps_definition.specs.Vps.{direct_reference, dependent_layer, in
 ghost use Rattle.table_steps.specs.Answers.{Gives};
 ghost use Rattle.layer_sets.specs.References.{layers_of};
 ghost use Rattle.vps_fields.specs.Header.{header_of};
-ghost use Rattle.vps_layers.specs.Flags.{Appended, FlagsMet, IsFlag};
+ghost use Rattle.vps_layers.specs.Flags.{Appended, FlagsMet, FlagGiven, IsFlag};
 ghost use Rattle.vps_layers.specs.Layers.{LayerMet, LayersMet};
 
 use refusals::Refusal;
-use table_steps::Steps;
+use table_steps::{Step, Steps};
 use vps_fields::Header;
 
 // Whether a layer refers to another directly, and the sublayers that it then may use.
@@ -27,19 +27,29 @@ fn direct_reference<S: Steps>(steps: &mut S, h: Header, present: u32) -> Result<
     Ok(flag)
 }
 
+// Such a flag, as a step.
+#[derive(Clone, Copy)]
+struct DirectReference {
+    h: Header,
+    present: u32,
+}
+
+impl<S: Steps> Step<S, u32> for DirectReference {
+    ghost leads = { λ step. FlagGiven S.goes (direct_reference step.present step.h.max_sublayers_minus1) };
+
+    fn go(&self, steps: &mut S) -> Result<u32, Refusal> {
+        direct_reference(steps, self.h, self.present)
+    }
+}
+
 // The mask of n flags of layers, each by one more step: a table's loop that appends such a flag in each turn is gone along.
-pub fn flags<S: Steps, F: Fn(&mut S) -> Result<u32, Refusal>>(
-    steps: &mut S,
-    n: usize,
-    flag: F,
-) -> Result<u64, Refusal>
-    requires callable { F.IsAlwaysCallable flag }
-    requires few { n ≤ 64 }
-    ensures { (f : ℕ → List ℕ → Syntax (List ℕ)) → IsFlag S.goes f (F.post flag) → Gives S.goes (FlagsMet n) (loop f n 0 []) steps.old result steps.new }
+// A mask has place for 64.
+pub fn flags<S: Steps, T: Step<S, u32>>(steps: &mut S, n: usize, flag: T) -> Result<u64, Refusal>
+    ensures { n ≤ 64 → (f : ℕ → List ℕ → Syntax (List ℕ)) → IsFlag S.goes f (T.leads flag) → Gives S.goes (FlagsMet n) (loop f n 0 []) steps.old result steps.new }
 {
     let mut mask = 0;
     for j in 0..n {
-        mask = layer_sets::with_flag(mask, flag(steps)?, j);
+        mask = layer_sets::with_flag(mask, flag.go(steps)?, j);
     }
     Ok(mask)
 }
@@ -57,9 +67,7 @@ impl Place {
     fn direct_references<S: Steps>(self, steps: &mut S, present: u32) -> Result<u64, Refusal>
         ensures { Gives S.goes (FlagsMet self.i) (loop (direct_reference present self.h.max_sublayers_minus1) self.i 0 []) steps.old result steps.new }
     {
-        flags(steps, self.i, |steps| {
-            direct_reference(steps, self.h, present)
-        })
+        flags(steps, self.i, DirectReference { h: self.h, present })
     }
 
     // A layer that depends on others: it refers to one of them at least.

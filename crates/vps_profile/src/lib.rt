@@ -6,7 +6,7 @@ ghost use Rattle.vps_definition.specs.ProfileTierLevel.{constraints_if, general_
 ghost use Rattle.vps_profile.specs.Parts.{from_sublayers, from_level};
 
 use refusals::Refusal;
-use table_steps::Parts;
+use table_steps::{Parts, Step};
 
 // What is coded of a slot before all slots.
 // As it is (1): the flag stays a number, as the record keeps it and the definition has it; as a bool it would be turned back where it is stored, and in each clause.
@@ -23,6 +23,18 @@ fn profile_and_tier<S: Parts>(steps: &mut S) -> Result<(), Refusal>
     steps.u(7)?;
     steps.u(1)?;
     Ok(())
+}
+
+// The profile and the tier, as a step.
+#[derive(Clone, Copy)]
+struct ProfileAndTier;
+
+impl<S: Parts> Step<S, ()> for ProfileAndTier {
+    ghost leads = { λ step. S.goes (Unit {0}) profile_and_tier };
+
+    fn go(&self, steps: &mut S) -> Result<(), Refusal> {
+        profile_and_tier(steps)
+    }
 }
 
 // The constraints where they are present, else their length 0.
@@ -45,12 +57,36 @@ fn general_constraints_info<S: Parts>(steps: &mut S) -> Result<(), Refusal>
     steps.align(None)
 }
 
+// The constraints with their flag, as a step.
+#[derive(Clone, Copy)]
+struct ConstraintsInfo;
+
+impl<S: Parts> Step<S, ()> for ConstraintsInfo {
+    ghost leads = { λ step. S.goes (Unit {0}) general_constraints_info };
+
+    fn go(&self, steps: &mut S) -> Result<(), Refusal> {
+        general_constraints_info(steps)
+    }
+}
+
 // The sub-profiles behind their number.
 fn sub_profiles<S: Parts>(steps: &mut S) -> Result<(), Refusal>
     ensures { S.goes (Unit {0}) sub_profiles steps.old result steps.new }
 {
     let count = steps.u(8)?;
     table_steps::fields(steps, count, 32)
+}
+
+// The sub-profiles, as a step.
+#[derive(Clone, Copy)]
+struct SubProfiles;
+
+impl<S: Parts> Step<S, ()> for SubProfiles {
+    ghost leads = { λ step. S.goes (Unit {0}) sub_profiles };
+
+    fn go(&self, steps: &mut S) -> Result<(), Refusal> {
+        sub_profiles(steps)
+    }
 }
 
 // The sublayers' flags and levels, and the sub-profiles.
@@ -60,7 +96,7 @@ fn from_sublayers<S: Parts>(steps: &mut S, head: SlotHead) -> Result<(), Refusal
     let levels = steps.reversed(head.max_tid, 1)?;
     steps.align(None)?;
     steps.reversed(levels as u32, 8)?;
-    table_steps::when(steps, head.present, sub_profiles)
+    table_steps::when(steps, head.present, SubProfiles)
 }
 
 // The level and the two flags behind it, the constraints, and the rest.
@@ -70,7 +106,7 @@ fn from_level<S: Parts>(steps: &mut S, head: SlotHead) -> Result<(), Refusal>
     steps.u(8)?;
     steps.u(1)?;
     steps.u(1)?;
-    table_steps::when(steps, head.present, general_constraints_info)?;
+    table_steps::when(steps, head.present, ConstraintsInfo)?;
     from_sublayers(steps, head)
 }
 
@@ -80,6 +116,6 @@ pub fn profile_tier_level<S: Parts>(steps: &mut S, head: SlotHead) -> Result<(),
 {
     steps.infer(head.present)?;
     steps.infer(head.max_tid)?;
-    table_steps::when(steps, head.present, profile_and_tier)?;
+    table_steps::when(steps, head.present, ProfileAndTier)?;
     from_level(steps, head)
 }

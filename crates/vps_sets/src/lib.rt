@@ -12,20 +12,32 @@ ghost use Rattle.vps_definition.specs.OutputLayerSets.Sets.{each_layer, up_to};
 ghost use Rattle.table_steps.specs.Answers.{Gives};
 ghost use Rattle.layer_sets.specs.Counted.{Known};
 ghost use Rattle.vps_fields.specs.Header.{header_of};
-ghost use Rattle.vps_layers.specs.Flags.{FlagsMet};
+ghost use Rattle.vps_layers.specs.Flags.{FlagsMet, FlagGiven};
 ghost use Rattle.vps_sets.specs.Rows.{RowMet, RowsMet};
 ghost use Rattle.vps_sets.specs.Sets.{ChosenMet, SetsMet, SectionMet};
 
 use record_parts::Record;
 use refusals::Refusal;
-use table_steps::Steps;
+use table_steps::{Step, Steps};
 use vps_fields::Header;
+
+// Whether a set gives a layer out, as a step.
+#[derive(Clone, Copy)]
+struct OutputFlag;
+
+impl<S: Steps> Step<S, u32> for OutputFlag {
+    ghost leads = { λ step. FlagGiven S.goes output_flag };
+
+    fn go(&self, steps: &mut S) -> Result<u32, Refusal> {
+        steps.u(1)
+    }
+}
 
 // One flag for each layer: whether the set gives it out.
 fn output_flags<S: Steps>(steps: &mut S, h: Header) -> Result<u64, Refusal>
     ensures { Gives S.goes (FlagsMet h.layers) (loop output_flag h.layers 0 []) steps.old result steps.new }
 {
-    vps_layers::flags(steps, h.layers as usize, |steps| steps.u(1))
+    vps_layers::flags(steps, h.layers as usize, OutputFlag)
 }
 
 // A row: it has one output layer at least.

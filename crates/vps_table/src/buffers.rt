@@ -2,8 +2,25 @@
 #![tactic(auto)]
 
 use refusals::Refusal;
-use table_steps::Steps;
+use table_steps::{Step, Steps};
 use vps_fields::Header;
+
+// The timing section, as a step.
+#[derive(Clone, Copy)]
+struct Timing {
+    h: Header,
+    multi: u32,
+}
+
+impl<S: Steps> Step<S, ()> for Timing {
+    ghost use Rattle.vps_definition.specs.TimingHrd.{timing_section};
+
+    ghost leads = { λ step. S.goes (Unit {0}) (timing_section step.h.default_max_tid_flag step.h.max_sublayers_minus1 step.multi) };
+
+    fn go(&self, steps: &mut S) -> Result<(), Refusal> {
+        vps_timing::timing_section(steps, self.h, self.multi)
+    }
+}
 
 // The sublayer flag of the DPB section, and where each of the two sections starts.
 // As it is (1): the flag stays a number, as it comes from its step and goes into the General section.
@@ -27,11 +44,7 @@ impl Buffers {
         let flag = vps_dpb::dpb_section(steps, h, multi)?;
         let timing = steps.place();
         let present = steps.u(1)?;
-        table_steps::when(
-            steps,
-            present,
-            |steps| vps_timing::timing_section(steps, h, multi),
-        )?;
+        table_steps::when(steps, present, Timing { h, multi })?;
         Ok(Buffers { flag, dpb, timing })
     }
 

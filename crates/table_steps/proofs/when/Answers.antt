@@ -10,4 +10,4 @@ returns-then-flag-eq0 g c m h = let L = g.S.Steps.laws in goes_yes L (eq-eqb _ _
 
 pub returns : goal.returns
 unfolding when
-returns g c m h = goes_no g.S.Steps.laws (ne_eqb _ _ c.if-flag-eq0.false) (h _ _ _ c.step.ensures)
+returns g c m h = goes_no g.S.Steps.laws (ne_eqb _ _ c.if-flag-eq0.false) (h _ _ _ c.go.ensures)

@@ -21,14 +21,14 @@ pub returns-in_err-repeat : goal.returns-in_err-repeat
 unfolding dpb_section
 returns-in_err-repeat g c =
     let L = g.S.Steps.laws in
-    let D = c.in_err-repeat.ensures (per_sublayer c.args.header.default_max_tid_flag c.args.header.max_sublayers_minus1 dpb_max_tid c.in_ok-flag.flag dpb_sublayer) (λ x y r p. search (rules, p)) in
+    let D = c.in_err-repeat.ensures (per_sublayer c.args.header.default_max_tid_flag c.args.header.max_sublayers_minus1 dpb_max_tid c.in_ok-flag.flag dpb_sublayer) (λ x y r p. p) in
     search (rules, L.goes_then, L.goes_stop, D)
 
 pub returns-in_err-_sets : goal.returns-in_err-_sets
 unfolding dpb_section
 returns-in_err-_sets g c =
     let L = g.S.Steps.laws in
-    let D = c.in_ok-repeat.ensures (per_sublayer c.args.header.default_max_tid_flag c.args.header.max_sublayers_minus1 dpb_max_tid c.in_ok-flag.flag dpb_sublayer) (λ x y r p. search (rules, p)) in
+    let D = c.in_ok-repeat.ensures (per_sublayer c.args.header.default_max_tid_flag c.args.header.max_sublayers_minus1 dpb_max_tid c.in_ok-flag.flag dpb_sublayer) (λ x y r p. p) in
     search (rules, L.goes_then, L.goes_stop, D)
 
 pub loop-i-init : goal.loop-i-init
@@ -38,7 +38,7 @@ pub returns-in_err-ols_dpb : goal.returns-in_err-ols_dpb
 unfolding dpb_section
 returns-in_err-ols_dpb g c =
     let L = g.S.Steps.laws in
-    let D = c.in_ok-repeat.ensures (per_sublayer c.args.header.default_max_tid_flag c.args.header.max_sublayers_minus1 dpb_max_tid c.in_ok-flag.flag dpb_sublayer) (λ x y r p. search (rules, p)) in
+    let D = c.in_ok-repeat.ensures (per_sublayer c.args.header.default_max_tid_flag c.args.header.max_sublayers_minus1 dpb_max_tid c.in_ok-flag.flag dpb_sublayer) (λ x y r p. p) in
     let l : c.loop-i.i + 1 ≤ c.args.multi = omega arith in
     search (rules, L.goes_then, L.goes_stop, D, turns_stop L _ _ l c.loop-i.invariant c.in_err-ols_dpb.ensures)
 
@@ -49,6 +49,6 @@ pub returns : goal.returns
 unfolding dpb_section
 returns g c =
     let L = g.S.Steps.laws in
-    let D = c.in_ok-repeat.ensures (per_sublayer c.args.header.default_max_tid_flag c.args.header.max_sublayers_minus1 dpb_max_tid c.in_ok-flag.flag dpb_sublayer) (λ x y r p. search (rules, p)) in
+    let D = c.in_ok-repeat.ensures (per_sublayer c.args.header.default_max_tid_flag c.args.header.max_sublayers_minus1 dpb_max_tid c.in_ok-flag.flag dpb_sublayer) (λ x y r p. p) in
     let m : c.loop-i.i ≡ c.args.multi = omega arith in
     search (rules, L.goes_then, L.goes_done, D, rw m at c.loop-i.invariant)

@@ -6,4 +6,4 @@ use Rattle.vps_layers.proofs.flags.Given as goal
 abbrev pub invariant-loop-j : goal.invariant-loop-j
 invariant-loop-j g l =
     (l.j ≤ l.n)
-    × ((f : ℕ → List ℕ → Syntax (List ℕ)) → IsFlag g.S.Steps.goes f (goal.F-post g l.fn.flag) → FlagsSoFar g.S.Steps.goes f l.j l.initial.steps l.mask l.steps)
+    × (l.n ≤ 64 → (f : ℕ → List ℕ → Syntax (List ℕ)) → IsFlag g.S.Steps.goes f (g.T.Step.leads l.fn.flag) → FlagsSoFar g.S.Steps.goes f l.j l.initial.steps l.mask l.steps)

@@ -28,13 +28,13 @@ pub returns-in_err-when : goal.returns-in_err-when
 unfolding timing_sublayer
 returns-in_err-when g c =
     let L = g.S.Steps.laws in
-    let N = c.in_err-when.ensures (sublayer_hrd (hrd_of c.args.hrd)) (λ x y r p. search (rules, p)) in
+    let N = c.in_err-when.ensures (sublayer_hrd (hrd_of c.args.hrd)) (λ x y r p. p) in
     search (rules, L.goes_then, L.goes_stop, N)
 
 pub returns : goal.returns
 unfolding timing_sublayer
 returns g c =
     let L = g.S.Steps.laws in
-    let N = c.in_ok-when.ensures (sublayer_hrd (hrd_of c.args.hrd)) (λ x y r p. search (rules, p)) in
-    let V = c.when.ensures (sublayer_hrd (hrd_of c.args.hrd)) (λ x y r p. search (rules, p)) in
+    let N = c.in_ok-when.ensures (sublayer_hrd (hrd_of c.args.hrd)) (λ x y r p. p) in
+    let V = c.when.ensures (sublayer_hrd (hrd_of c.args.hrd)) (λ x y r p. p) in
     search (rules, L.goes_then, L.goes_stop, L.goes_done, N, V)

@@ -20,12 +20,12 @@ pub returns-in_err-when : goal.returns-in_err-when
 unfolding from_level
 returns-in_err-when g c =
     let L = g.S.Steps.laws in
-    let W = c.in_err-when.ensures general_constraints_info (λ x y r p. search (rules, p)) in
+    let W = c.in_err-when.ensures general_constraints_info (λ x y r p. p) in
     search (rules, L.goes_then, L.goes_stop, W)
 
 pub returns : goal.returns
 unfolding from_level
 returns g c =
     let L = g.S.Steps.laws in
-    let W = c.in_ok-when.ensures general_constraints_info (λ x y r p. search (rules, p)) in
+    let W = c.in_ok-when.ensures general_constraints_info (λ x y r p. p) in
     search (rules, L.goes_then, L.goes_stop, W)

@@ -31,5 +31,5 @@ returns g c =
     let L = g.S.Steps.laws in
     let F = c.in_ok-levels.ensures.goes in
     let V = goes_as L (ap (λ (k : ℕ). reversed k 8) F.1) c.in_ok-reversed.ensures.goes.2 in
-    let W = c.when.ensures sub_profiles (λ x y r p. search (rules, p)) in
+    let W = c.when.ensures sub_profiles (λ x y r p. p) in
     search (rules, L.goes_then, F.2, V, W)

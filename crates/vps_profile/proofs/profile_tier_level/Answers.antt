@@ -16,12 +16,12 @@ pub returns-in_err-when : goal.returns-in_err-when
 unfolding profile_tier_level
 returns-in_err-when g c =
     let L = g.S.Steps.laws in
-    let W = c.in_err-when.ensures profile_and_tier (λ x y r p. search (rules, p)) in
+    let W = c.in_err-when.ensures profile_and_tier (λ x y r p. p) in
     search (rules, L.goes_then, L.goes_stop, W)
 
 pub returns : goal.returns
 unfolding profile_tier_level from_level from_sublayers
 returns g c =
     let L = g.S.Steps.laws in
-    let W = c.in_ok-when.ensures profile_and_tier (λ x y r p. search (rules, p)) in
+    let W = c.in_ok-when.ensures profile_and_tier (λ x y r p. p) in
     search (rules, L.goes_then, L.goes_stop, W)

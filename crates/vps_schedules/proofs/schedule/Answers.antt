@@ -16,19 +16,19 @@ pub returns-in_err-when : goal.returns-in_err-when
 unfolding nothing schedule
 returns-in_err-when g c =
     let L = g.S.Steps.laws in
-    let W = c.in_err-when.ensures du_values (λ x y r p. search (rules, p)) in
+    let W = c.in_err-when.ensures du_values (λ x y r p. p) in
     search (rules, L.goes_then, L.goes_stop, W)
 
 pub returns-in_err-u : goal.returns-in_err-u
 unfolding nothing schedule
 returns-in_err-u g c =
     let L = g.S.Steps.laws in
-    let W = c.in_ok-when.ensures du_values (λ x y r p. search (rules, p)) in
+    let W = c.in_ok-when.ensures du_values (λ x y r p. p) in
     search (rules, L.goes_then, L.goes_stop, W)
 
 pub returns : goal.returns
 unfolding nothing schedule
 returns g c =
     let L = g.S.Steps.laws in
-    let W = c.in_ok-when.ensures du_values (λ x y r p. search (rules, p)) in
+    let W = c.in_ok-when.ensures du_values (λ x y r p. p) in
     search (rules, L.goes_then, L.goes_stop, L.goes_done, W)

@@ -26,12 +26,12 @@ pub returns-in_err-repeat : goal.returns-in_err-repeat
 unfolding timing_section
 returns-in_err-repeat g c =
     let L = g.S.Steps.laws in
-    let E = c.in_err-repeat.ensures (per_sublayer c.args.header.default_max_tid_flag c.args.header.max_sublayers_minus1 timing_max_tid c.in_ok-flag.flag (timing_sublayer (hrd_of c.in_ok-hrd.hrd))) (λ x y r p. search (rules, p)) in
+    let E = c.in_err-repeat.ensures (per_sublayer c.args.header.default_max_tid_flag c.args.header.max_sublayers_minus1 timing_max_tid c.in_ok-flag.flag (timing_sublayer (hrd_of c.in_ok-hrd.hrd))) (λ x y r p. p) in
     search (rules, L.goes_then, L.goes_stop, E)
 
 pub returns : goal.returns
 unfolding timing_section
 returns g c =
     let L = g.S.Steps.laws in
-    let E = c.in_ok-repeat.ensures (per_sublayer c.args.header.default_max_tid_flag c.args.header.max_sublayers_minus1 timing_max_tid c.in_ok-flag.flag (timing_sublayer (hrd_of c.in_ok-hrd.hrd))) (λ x y r p. search (rules, p)) in
+    let E = c.in_ok-repeat.ensures (per_sublayer c.args.header.default_max_tid_flag c.args.header.max_sublayers_minus1 timing_max_tid c.in_ok-flag.flag (timing_sublayer (hrd_of c.in_ok-hrd.hrd))) (λ x y r p. p) in
     search (rules, L.goes_then, L.goes_stop, E)

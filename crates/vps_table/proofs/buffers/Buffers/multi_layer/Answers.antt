@@ -13,11 +13,11 @@ returns-in_err-present g c = let b = multi_present g.S.Steps.laws (header_of c.a
 
 pub returns-in_err-when : goal.returns-in_err-when
 returns-in_err-when g c =
-    let T = c.in_err-when.ensures (timing_section c.args.h.default_max_tid_flag c.args.h.max_sublayers_minus1 c.args.multi) (λ x y r p. search (rules, p)) in
+    let T = c.in_err-when.ensures (timing_section c.args.h.default_max_tid_flag c.args.h.max_sublayers_minus1 c.args.multi) (λ x y r p. p) in
     let b = multi_timing g.S.Steps.laws (header_of c.args.h) _ c.in_ok-flag.ensures c.in_ok-present.ensures.goes T in
     search (rules, b)
 
 pub returns : goal.returns
 returns g c =
-    let T = c.in_ok-when.ensures (timing_section c.args.h.default_max_tid_flag c.args.h.max_sublayers_minus1 c.args.multi) (λ x y r p. search (rules, p)) in
+    let T = c.in_ok-when.ensures (timing_section c.args.h.default_max_tid_flag c.args.h.max_sublayers_minus1 c.args.multi) (λ x y r p. p) in
     multi_done g.S.Steps.laws (header_of c.args.h) _ c.in_ok-flag.ensures c.in_ok-present.ensures.goes c.place-dpb.ensures c.place-timing.ensures T
