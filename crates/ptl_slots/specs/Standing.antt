@@ -1,8 +1,7 @@
 -- Numbers that stand in the record's rest, and zeros past its end.
-use Rattle.std.specs.Prelude.{ℕ, zero, suc, ◌+◌, ◌≤◌, ◌<◌, ◌≡◌, refl, List, [], ◌∷◌, ◌++◌, Bool, true, false, leb, min, length, get_or, take, drop}
+use Rattle.std.specs.Prelude.{ℕ, zero, suc, ◌+◌, ◌≤◌, ◌<◌, ◌≡◌, refl, List, [], ◌∷◌, ◌++◌, Bool, true, false, leb, length, get_or, take, drop}
 use Rattle.std.proofs.Common.{sym, ap, ap₂, ◌∙◌, add-zero, zero-add, arith, leb-true, leb-false, drop_of_length-le}
-use Rattle.std.specs.List.{fold}
-use Rattle.std.proofs.Math.Nat.{min-le_left, min-le_right, min-eq_left, min-eq_right}
+use Rattle.std.proofs.lemmas.List.{take_all}
 use Rattle.vps_definition.specs.Words.{sum}
 
 -- n numbers, the first of which stands i numbers on
@@ -91,36 +90,36 @@ pub record Capped (most all r : ℕ) : Type 0 where
   pub exact : r ≤ most → r ≡ all
   pub over : most < r → most < all
 
--- a sum that stays at the greatest number of its type once it would pass it
-sum_up_to : (top a : ℕ) (l : List ℕ) → a ≤ top → fold (λ s v. min (s + v) top) a l ≡ min (a + sum l) top
+-- the sum of the first i numbers, and one number more
+pub sum_more : (i : ℕ) (l : List ℕ) → i < length l → sum (take i l) + get_or l i 0 ≡ sum (take (i + 1) l)
 unfolding sum
-sum_up_to top a [] h = sym (min-eq_left (omega arith) ∙ add-zero a)
-sum_up_to top a (v ∷ l) h = sum_up_to top (min (a + v) top) l (min-le_right (a + v) top) ∙ more (leb (a + v) top) refl
-  where
-    more : (b : Bool) → leb (a + v) top ≡ b → min (min (a + v) top + sum l) top ≡ min (a + (v + sum l)) top
-    more true e = ap (λ (n : ℕ). min (n + sum l) top) (min-eq_left (leb-true (a + v) top e)) ∙ ap (λ (n : ℕ). min n top) (omega arith)
-    more false e =
-        let k : top ≤ a + v = omega (arith, leb-false (a + v) top e) in
-        let far : top ≤ a + (v + sum l) = omega (arith, k) in
-        let near : top ≤ top + sum l = omega arith in
-        ap (λ (n : ℕ). min (n + sum l) top) (min-eq_right k) ∙ min-eq_right near ∙ sym (min-eq_right far)
+sum_more i [] h = absurd (omega arith)
+sum_more zero (v ∷ l) h = omega arith
+sum_more (suc i) (v ∷ l) h =
+    let e : suc i + 1 ≡ suc (i + 1) = omega arith in
+    omega (arith, sum_more i l (omega arith), ap (λ (k : ℕ). sum (take k (v ∷ l))) e)
 
--- such a sum is right up to what is below that number
-pub capped_up_to : (x : List ℕ) (count : ℕ) (most top : ℕ) {r : ℕ} → most < top → r ≡ fold (λ s v. min (s + v) top) 0 (take count x) → Capped most (sum (standing count 0 x)) r
-capped_up_to x count most top {r} h e = record {
-  exact = λ l. go l (leb all top) refl;
-  over = λ l. omega (arith, l, is, min-le_left all top, sum_standing count x);
-}
-  where
-    all : ℕ
-    all = sum (take count x)
+-- it is no greater than that of all
+sum_front : (i : ℕ) (l : List ℕ) → sum (take i l) ≤ sum l
+unfolding sum
+sum_front zero l = omega arith
+sum_front (suc i) [] = omega arith
+sum_front (suc i) (v ∷ l) = omega (arith, sum_front i l)
 
-    is : r ≡ min all top
-    is = e ∙ sum_up_to top 0 (take count x) (omega arith) ∙ ap (λ (n : ℕ). min n top) (zero-add all)
+module _ (x l : List ℕ) (count i most : ℕ) {s : ℕ} (e : l ≡ take count x) (is : s ≡ sum (take i l)) where
+  -- where it is too large, so is that of all
+  pub capped_over : most < s → Capped most (sum (standing count 0 x)) s
+  capped_over h = record {
+    exact = λ k. absurd (omega (arith, h, k));
+    over = λ k. omega (arith, h, is, sum_front i l, ap sum e, sum_standing count x);
+  }
 
-    go : r ≤ most → (b : Bool) → leb all top ≡ b → r ≡ sum (standing count 0 x)
-    go l true k = is ∙ min-eq_left (leb-true all top k) ∙ sym (sum_standing count x)
-    go l false k = let t : min all top ≡ top = min-eq_right (omega (arith, leb-false all top k)) in absurd (omega (arith, l, h, is, t))
+  -- behind the last number it is that of all
+  pub capped_all : length l ≤ i → Capped most (sum (standing count 0 x)) s
+  capped_all h = record { exact = λ k. all; over = λ k. omega (arith, k, all) }
+    where
+      all : s ≡ sum (standing count 0 x)
+      all = is ∙ ap sum (take_all i l h ∙ e) ∙ sym (sum_standing count x)
 
 module _ {most all r : ℕ} (C : Capped most all r) where
   pub capped_exact : all ≤ most → r ≡ all

@@ -16,9 +16,14 @@ use record_parts::number_at;
 pub fn sum_numbers(numbers: &[u32], count: u32) -> usize
     ensures { Capped (length numbers.now) (sum (standing count 0 numbers.now)) result }
 {
-    front(numbers, count as usize)
-        .iter()
-        .fold(0, |sum: usize, v| sum.saturating_add(*v as usize))
+    let mut sum = 0;
+    for v in front(numbers, count as usize) {
+        if numbers.len() < sum {
+            return sum;
+        }
+        sum += *v as usize;
+    }
+    sum
 }
 
 // How many constraints follow the fixed ones, by the bits that stand 70 to 77 numbers behind the constraints' length.
