@@ -1,7 +1,7 @@
 // The VPS's section of profile, tier and level, read or written: the slots' heads, and the slots.
 #![tactic(auto)]
 
-ghost use Rattle.std.specs.Prelude.{ℕ, ◌<◌, List, [], length, IfOk};
+ghost use Rattle.std.specs.Prelude.{ℕ, ◌<◌, ◌^◌, List, [], length, IfOk};
 ghost use Rattle.bits.specs.Bits.{field_width};
 ghost use Rattle.refusals.specs.declared.refusal.Refusal.{Refusal};
 ghost use Rattle.vps_definition.specs.Words.{loop};
@@ -27,6 +27,14 @@ fn slot_count<S: Parts>(steps: &mut S, layers: u32) -> Result<u32, Refusal>
     steps.u_minus1()
 }
 
+// A slot's head, as it is kept until the slots are gone along.
+// As it is (2): `vps_profile::SlotHead` has the same numbers as its steps take them; the list of 256, which each section clears, is a quarter as long in bytes.
+#[derive(Clone, Copy)]
+struct KeptHead {
+    present: u8,
+    max_tid: u8,
+}
+
 // Number j of slot i, whose place is given, where it is coded, else its inferred value.
 fn slot_number_if<S: Parts>(
     steps: &mut S,
@@ -37,6 +45,7 @@ fn slot_number_if<S: Parts>(
     other: u32,
 ) -> Result<u32, Refusal>
     ensures goes { (i : ℕ) → S.stands i steps.old slot → S.goes ℕ (slot_number_if coded i j (field_width width) other) steps.old result steps.new }
+    ensures within { other < 2 ^ field_width width → IfOk result (λ v. v < 2 ^ field_width width) }
     ensures stays { (i : ℕ) → (place : S.Slot) → S.stands i steps.old place → S.stands i steps.new place }
 {
     if coded {
@@ -52,7 +61,7 @@ fn slot_head<S: Parts>(
     h: &Header,
     slot: S::Slot,
     i: usize,
-) -> Result<SlotHead, Refusal>
+) -> Result<KeptHead, Refusal>
     ensures goes { (heads : List Head) → S.stands i steps.old slot → Gives S.goes (IsBehind heads) (ptl_head (header_of h.now) i heads) steps.old result steps.new }
     ensures stays { (j : ℕ) → (place : S.Slot) → S.stands j steps.old place → S.stands j steps.new place }
 {
@@ -60,11 +69,14 @@ fn slot_head<S: Parts>(
     let present = slot_number_if(steps, 0 < i, slot, 0, 1, 1)?;
     let max_tid = slot_number_if(steps, h.default_max_tid_flag == 0, slot, 1, 3, top)?;
     steps.check(max_tid <= top, Refusal::PtlMaxTid)?;
-    Ok(SlotHead { present, max_tid })
+    Ok(KeptHead {
+        present: present as u8,
+        max_tid: max_tid as u8,
+    })
 }
 
 // All heads, one after another.
-fn slot_heads<S: Parts>(steps: &mut S, h: &Header, heads: &mut [SlotHead]) -> Result<(), Refusal>
+fn slot_heads<S: Parts>(steps: &mut S, h: &Header, heads: &mut [KeptHead]) -> Result<(), Refusal>
     ensures { Gives S.goes (AreHeads heads.new) (loop (ptl_head (header_of h.now)) (length heads.new) 0 []) steps.old result steps.new }
 {
     let mut slot = steps.first_slot();
@@ -76,11 +88,15 @@ fn slot_heads<S: Parts>(steps: &mut S, h: &Header, heads: &mut [SlotHead]) -> Re
 }
 
 // All slots, each behind its head.
-fn slots<S: Parts>(steps: &mut S, heads: &[SlotHead]) -> Result<(), Refusal>
+fn slots<S: Parts>(steps: &mut S, heads: &[KeptHead]) -> Result<(), Refusal>
     ensures { S.goes (Unit {0}) (loop (ptl_slot (table_heads heads.now)) (length heads.now) 0 tt) steps.old result steps.new }
 {
-    for head in heads {
-        profile_tier_level(steps, *head)?;
+    for kept in heads {
+        let head = SlotHead {
+            present: kept.present as u32,
+            max_tid: kept.max_tid as u32,
+        };
+        profile_tier_level(steps, head)?;
     }
     Ok(())
 }
@@ -91,7 +107,7 @@ pub fn ptl_section<S: Parts>(steps: &mut S, h: &Header, total: u32) -> Result<u3
 {
     let count = slot_count(steps, h.layers)?;
     steps.check(count <= total, Refusal::PtlsOverSets)?;
-    let mut all = [SlotHead {
+    let mut all = [KeptHead {
         present: 0,
         max_tid: 0,
     }; 256];

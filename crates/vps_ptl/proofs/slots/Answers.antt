@@ -5,18 +5,18 @@ use Rattle.table_steps.specs.Turns.{turns_begin, turns_more, turns_stop}
 use Rattle.vps_ptl.specs.Heads.{stored_slot}
 use Rattle.vps_ptl.proofs.slots.Goals as goal
 
-pub loop-head-init : goal.loop-head-init
-loop-head-init g c = turns_begin g.S.Steps.laws _ _
+pub loop-kept-init : goal.loop-kept-init
+loop-kept-init g c = turns_begin g.S.Steps.laws _ _
 
 pub returns-in_err-profile_tier_level : goal.returns-in_err-profile_tier_level
 returns-in_err-profile_tier_level g c =
     let L = g.S.Steps.laws in
-    let h : c.loop-head.head-index + 1 ≤ length c.args.heads.now = omega (arith, c.loop-head-test.true) in
-    let H = goes_as L {r = Err c.in_err-profile_tier_level.field-0.0} (stored_slot c.args.heads.now c.loop-head.head-index) c.in_err-profile_tier_level.ensures in
-    search (rules, turns_stop L _ _ h c.loop-head.invariant H)
+    let h : c.loop-kept.kept-index + 1 ≤ length c.args.heads.now = omega (arith, c.loop-kept-test.true) in
+    let H = goes_as L {r = Err c.in_err-profile_tier_level.field-0.0} (stored_slot c.args.heads.now c.loop-kept.kept-index) c.in_err-profile_tier_level.ensures in
+    search (rules, turns_stop L _ _ h c.loop-kept.invariant H)
 
-pub loop-head-preserved : goal.loop-head-preserved
-loop-head-preserved g c =
+pub loop-kept-preserved : goal.loop-kept-preserved
+loop-kept-preserved g c =
     let L = g.S.Steps.laws in
-    let H = goes_as L {r = Ok tt} (stored_slot c.args.heads.now c.loop-head.head-index) c.in_ok-profile_tier_level.ensures in
-    turns_more L _ _ {r = Ok tt} c.loop-head.invariant H
+    let H = goes_as L {r = Ok tt} (stored_slot c.args.heads.now c.loop-kept.kept-index) c.in_ok-profile_tier_level.ensures in
+    turns_more L _ _ {r = Ok tt} c.loop-kept.invariant H
