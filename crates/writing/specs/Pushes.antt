@@ -36,10 +36,10 @@ pub record Pushed (fits : Bool) (b : List ℕ) (s s' : Writing) : Type 0 where
 abbrev pub StepPuts : (MutBor Sink → MutBor Sink → Type 0) → Bool → List ℕ → Type 0
 StepPuts step fits b = (x y : MutBor Sink) → step x y → SameOutput x.now y.now × (fits ≡ true → Puts b x.now y.now)
 
--- unless the value doesn't fit, or there get to be too many
+-- unless the value doesn't fit, or there get to be too many; then what was pushed before stays pushed
 abbrev pub SaysPushed : Bool → List ℕ → Writing → Result (Unit {0}) Refusal → Writing → Type 0
 SaysPushed fits b s (Ok u) s' = Pushed fits b s s'
-SaysPushed fits b s (Err e) s' = (e ≡ NotWellFormed) × (fits ≡ true → most_bits < s.so_far.bits + length b)
+SaysPushed fits b s (Err e) s' = (e ≡ NotWellFormed) × (fits ≡ true → most_bits < s.so_far.bits + length b) × (s'.so_far ≡ s.so_far)
 
 pub record Pushes (fits : Bool) (b : List ℕ) (s : Writing) (r : Result (Unit {0}) Refusal) (s' : Writing) : Type 0 where
   pub stays : Stays s s'

@@ -42,7 +42,7 @@ none_above v w = go (ltb v (2 ^ w)) refl
 -- no bits are pushed
 pub pushes_none : {fits fits' : Bool} {b : List ℕ} {s : Writing} {n : ℕ} → fits ≡ fits' → (fits' ≡ true → n ≡ length b) → (fits ≡ true → most_bits < s.so_far.bits + n)
     → Pushes fits' b s (Err NotWellFormed) s
-pushes_none f l h = record { stays = stays_all; next = refl; says = (refl, λ g. omega (arith, h (f ∙ g), l g)) }
+pushes_none f l h = record { stays = stays_all; next = refl; says = (refl, (λ g. omega (arith, h (f ∙ g), l g)), refl) }
 
 -- bits are pushed, by a sink that the output is lent to
 pub pushes_bits : {fits fits' : Bool} {b : List ℕ} {s : Writing} {k k' : Sink} {n : ℕ} → fits ≡ fits' → (fits' ≡ true → n ≡ length b) → (fits ≡ true) × (s.so_far.bits + n ≤ most_bits)
