@@ -5,6 +5,7 @@
 mod page;
 mod row;
 
+use lists::behind;
 use printing::print_count;
 
 // Standard input.
@@ -32,13 +33,15 @@ impl Counts {
     }
 }
 
-// What the lines of a page come to.
+// What the lines of a page come to; of a row, all that stands from its bar on is looked at.
 fn counted(page: &[u8]) -> Counts {
     let mut counts = Counts::default();
+    let mut rest = page;
     for line in page.split(|byte| *byte == b'\n') {
-        if page::is_row(line) {
-            counts.count_row(page::number(line), page::sentence(line));
+        if page::is_row(rest) {
+            counts.count_row(page::number(rest), page::sentence(rest));
         }
+        rest = behind(behind(rest, line.len()), 1);
     }
     counts
 }

@@ -71,7 +71,7 @@ fn no_neighbour(bytes: &[u8]) -> bool {
 
 pub fn is_same(number: u32, bytes: &[u8]) -> bool {
     is_stored_always(number, bytes)
-        && sentence_number(bytes).map(Refusal::number) == Some(number)
+        && sentence_number(bytes).map_or(0, Refusal::number) == number
         && no_beginning(bytes)
         && no_neighbour(bytes)
 }
