@@ -1,6 +1,5 @@
 // What a case asks, by its tag.
 use crate::expected::Step;
-use replay_list::UnknownTag;
 
 // A question to the bytes or to the bit reader at a place.
 #[derive(Clone, Copy, Debug, PartialEq, Eq)]
@@ -24,23 +23,21 @@ pub enum Asked {
     Chain,
 }
 
-// Tags 1 to 3 are stuffing, to 7 questions, from 11 on steps of the reader, from 21 on steps of the writer, and 30 is a chain.
-impl TryFrom<u8> for Asked {
-    type Error = UnknownTag;
-
-    fn try_from(tag: u8) -> Result<Asked, UnknownTag> {
+// Tags up to 3 are stuffing, to 10 questions, to 20 steps of the reader, to 29 steps of the writer, and from 30 on chains. The list
+// has those up to 7, 11 to 15, 21 to 25 and 30.
+impl From<u8> for Asked {
+    fn from(tag: u8) -> Asked {
         match tag {
-            1 => Ok(Asked::Unstuffing),
-            2 => Ok(Asked::RbspLength),
-            3 => Ok(Asked::Stuffing),
-            4 => Ok(Asked::Question(Question::BitAt)),
-            5 => Ok(Asked::Question(Question::FieldAt)),
-            6 => Ok(Asked::Question(Question::ByteAligned)),
-            7 => Ok(Asked::Question(Question::MoreRbspData)),
-            11..=20 => Step::try_from(tag - 10).map(Asked::Reading),
-            21..=29 => Step::try_from(tag - 20).map(Asked::Writing),
-            30 => Ok(Asked::Chain),
-            _ => Err(UnknownTag),
+            1 => Asked::Unstuffing,
+            2 => Asked::RbspLength,
+            0 | 3 => Asked::Stuffing,
+            4 => Asked::Question(Question::BitAt),
+            5 => Asked::Question(Question::FieldAt),
+            6 => Asked::Question(Question::ByteAligned),
+            7..=10 => Asked::Question(Question::MoreRbspData),
+            11..=20 => Asked::Reading(Step::from(tag - 10)),
+            21..=29 => Asked::Writing(Step::from(tag - 20)),
+            30.. => Asked::Chain,
         }
     }
 }

@@ -1,10 +1,10 @@
 // Chains of steps, written one behind the other and read again: how many steps, the steps, the buffer before, the
 // buffer afterwards. A step has 9 bytes: step, width, value, number, place behind. A refused step leaves the place and
-// is not read.
+// is not read; the step behind it stands at the place that is recorded.
 use crate::content::is_buffer_same;
 use crate::expected::{Expected, Front, Step};
 use crate::{reading, writing};
-use replay_numbers::{Content, outcome};
+use replay_numbers::Content;
 
 // The bytes of a step.
 const LINK_BYTES: usize = 9;
@@ -17,25 +17,29 @@ struct Link {
 }
 
 impl Link {
-    // The next of the steps, at a place; none where no step has its tag, or no refusal its number.
-    fn next(steps: &mut Content, at: usize) -> Option<Link> {
-        let step = Step::try_from(steps.byte()).ok()?;
+    // The next of the steps, at a place.
+    fn next(steps: &mut Content, at: usize) -> Link {
+        let step = Step::from(steps.byte());
         let width = u32::from(steps.byte());
         let value = steps.four_bytes();
         let number = u32::from(steps.byte());
-        let next = outcome(number, steps.two_bytes() as usize).ok()?;
-        Some(Link {
+        let next = steps.two_bytes() as usize;
+        Link {
             step,
             front: Front {
                 at,
                 width,
-                expected: Expected { next, value },
+                expected: Expected {
+                    number,
+                    value,
+                    next,
+                },
             },
-        })
+        }
     }
 }
 
-// Whether so many steps are as recorded, each at the place where the one before it leaves off.
+// Whether so many steps are as recorded, each at the place that is recorded behind the one before it.
 fn are_steps<F: Fn(Step, &mut [u8], Front) -> bool>(
     count: u32,
     mut steps: Content,
@@ -46,13 +50,11 @@ fn are_steps<F: Fn(Step, &mut [u8], Front) -> bool>(
 {
     let mut at = 0;
     for _ in 0..count {
-        let Some(Link { step, front }) = Link::next(&mut steps, at) else {
-            return false;
-        };
+        let Link { step, front } = Link::next(&mut steps, at);
         if !is_step(step, out, front) {
             return false;
         }
-        at = front.expected.place_from(at);
+        at = front.expected.next;
     }
     true
 }
@@ -63,7 +65,7 @@ pub fn is_same(mut content: Content, out: &mut [u8]) -> bool {
         rest: content.bytes(count as usize * LINK_BYTES),
     };
     let is_read = |step, out: &mut [u8], front: Front| {
-        front.expected.next.is_err() || reading::is_step(step, out, front)
+        front.expected.number != 0 || reading::is_step(step, out, front)
     };
     is_buffer_same(content.rest, out, |out| {
         are_steps(count, steps, out, writing::is_step) && are_steps(count, steps, out, is_read)

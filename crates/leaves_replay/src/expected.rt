@@ -1,6 +1,5 @@
 // What a case of a step is asked with and expects, and the steps by their numbers.
-use refusals::{NoRefusal, Refusal};
-use replay_list::UnknownTag;
+use refusals::Refusal;
 use replay_numbers::{Content, outcome};
 
 // A step of the bit reader or of the bit writer.
@@ -13,43 +12,41 @@ pub enum Step {
     Trailing,
 }
 
-// By its tag in a chain.
-impl TryFrom<u8> for Step {
-    type Error = UnknownTag;
-
-    fn try_from(tag: u8) -> Result<Step, UnknownTag> {
+// By its tag in a chain: the first five, where 0 is a code as well, and each above is the trailing bits.
+impl From<u8> for Step {
+    fn from(tag: u8) -> Step {
         match tag {
-            1 => Ok(Step::Bit),
-            2 => Ok(Step::Field),
-            3 => Ok(Step::Code),
-            4 => Ok(Step::Alignment),
-            5 => Ok(Step::Trailing),
-            _ => Err(UnknownTag),
+            1 => Step::Bit,
+            2 => Step::Field,
+            0 | 3 => Step::Code,
+            4 => Step::Alignment,
+            5.. => Step::Trailing,
         }
     }
 }
 
-// The place behind a step, or its refusal, and a value.
+// What a step is to say: 0 or a refusal's number, a value, and the place that is recorded behind the step.
 #[derive(Clone, Copy)]
 pub struct Expected {
-    pub next: Result<usize, Refusal>,
+    pub number: u32,
     pub value: u32,
+    pub next: usize,
 }
 
 impl Expected {
     // Where a place stands after a step from another: at a refusal where it was.
     pub fn place_from(self, at: usize) -> usize {
-        self.next.unwrap_or(at)
+        if self.number == 0 { self.next } else { at }
     }
 
     // Whether a step with the value says what is expected.
     pub fn is_value(self, answer: Result<u32, Refusal>) -> bool {
-        answer == self.next.map(|_| self.value)
+        outcome(self.number, self.value) == Ok(answer)
     }
 
     // Whether a step without a value does.
     pub fn is_done(self, answer: Result<(), Refusal>) -> bool {
-        answer == self.next.map(|_| ())
+        outcome(self.number, ()) == Ok(answer)
     }
 }
 
@@ -61,20 +58,17 @@ pub struct Front {
     pub expected: Expected,
 }
 
-// Taken from a case's content, where its number is success or that of a refusal.
-impl<'a> TryFrom<&mut Content<'a>> for Front {
-    type Error = NoRefusal;
-
-    fn try_from(content: &mut Content<'a>) -> Result<Front, NoRefusal> {
-        let at = content.eight_bytes();
-        let width = content.four_bytes();
-        let number = u32::from(content.byte());
-        let value = content.four_bytes();
-        let next = outcome(number, content.eight_bytes())?;
-        Ok(Front {
-            at,
-            width,
-            expected: Expected { next, value },
-        })
+// Taken from a case's content.
+impl<'a> From<&mut Content<'a>> for Front {
+    fn from(content: &mut Content<'a>) -> Front {
+        Front {
+            at: content.eight_bytes(),
+            width: content.four_bytes(),
+            expected: Expected {
+                number: u32::from(content.byte()),
+                value: content.four_bytes(),
+                next: content.eight_bytes(),
+            },
+        }
     }
 }

@@ -10,26 +10,25 @@ mod stuffed;
 mod writing;
 
 use asked::Asked;
-use replay_list::UnknownTag;
+use replay_list::Replays;
 use replay_numbers::Content;
 
 // Whether a case of stuffing, of the bit reader or of the bit writer is as recorded.
 fn is_same(tag: u8, content: &[u8]) -> bool {
     let mut out = [0u8; 1024];
     let content = Content { rest: content };
-    match Asked::try_from(tag) {
-        Ok(Asked::Unstuffing) => stuffed::is_same(content, &mut out, stuffing::ebsp_to_rbsp),
-        Ok(Asked::RbspLength) => stuffed::is_length_same(content),
-        Ok(Asked::Stuffing) => stuffed::is_same(content, &mut out, stuffing::rbsp_to_ebsp),
-        Ok(Asked::Question(question)) => reading::is_question_same(question, content),
-        Ok(Asked::Reading(step)) => reading::is_step_same(step, content),
-        Ok(Asked::Writing(step)) => writing::is_same(step, content, &mut out),
-        Ok(Asked::Chain) => chain::is_same(content, &mut out),
-        Err(UnknownTag) => false,
+    match Asked::from(tag) {
+        Asked::Unstuffing => stuffed::is_same(content, &mut out, stuffing::ebsp_to_rbsp),
+        Asked::RbspLength => stuffed::is_length_same(content),
+        Asked::Stuffing => stuffed::is_same(content, &mut out, stuffing::rbsp_to_ebsp),
+        Asked::Question(question) => reading::is_question_same(question, content),
+        Asked::Reading(step) => reading::is_step_same(step, content),
+        Asked::Writing(step) => writing::is_same(step, content, &mut out),
+        Asked::Chain => chain::is_same(content, &mut out),
     }
 }
 
 fn main() {
     let mut content = [0u8; 4096];
-    replay_list::replay(&mut content, is_same);
+    replay_list::replay(&mut content, Replays { is_same });
 }

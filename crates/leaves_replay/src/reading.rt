@@ -22,21 +22,18 @@ pub fn is_step(step: Step, bytes: &[u8], front: Front) -> bool {
 }
 
 pub fn is_step_same(step: Step, mut content: Content) -> bool {
-    Front::try_from(&mut content).is_ok_and(|front| is_step(step, content.rest, front))
+    let front = Front::from(&mut content);
+    is_step(step, content.rest, front)
 }
 
-// The bit at a place, the field there, byte_aligned() and more_rbsp_data(). A yes has the value 1, a no the value 0.
+// The bit at a place, the field there, byte_aligned() and more_rbsp_data(). A yes has the value 1, a no the value 0. A bit and a
+// field are values alone, and refuse nothing.
 pub fn is_question_same(question: Question, mut content: Content) -> bool {
-    let Ok(
-        Front {
-            at,
-            width,
-            expected,
-        },
-    ) = Front::try_from(&mut content)
-    else {
-        return false;
-    };
+    let Front {
+        at,
+        width,
+        expected,
+    } = Front::from(&mut content);
     let bytes = content.rest;
     let reader = BitReader { bytes, bit_pos: at };
     match question {

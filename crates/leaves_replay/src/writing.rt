@@ -23,8 +23,6 @@ pub fn is_step(step: Step, out: &mut [u8], front: Front) -> bool {
 }
 
 pub fn is_same(step: Step, mut content: Content, out: &mut [u8]) -> bool {
-    let Ok(front) = Front::try_from(&mut content) else {
-        return false;
-    };
+    let front = Front::from(&mut content);
     is_buffer_same(content.rest, out, |out| is_step(step, out, front))
 }

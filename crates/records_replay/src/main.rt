@@ -5,7 +5,7 @@ ghost use Rattle.std.specs.Prelude.{◌<◌, ◌^◌};
 
 mod written;
 
-use replay_list::UnknownTag;
+use replay_list::{Replays, UnknownTag};
 
 // How long the buffers of a case may be.
 #[derive(Clone, Copy, PartialEq, Eq)]
@@ -45,5 +45,5 @@ fn is_same(tag: u8, content: &[u8]) -> bool {
 
 fn main() {
     let mut content = [0u8; 16384];
-    replay_list::replay(&mut content, is_same);
+    replay_list::replay(&mut content, Replays { is_same });
 }

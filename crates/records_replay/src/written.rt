@@ -67,25 +67,21 @@ impl<'a> Case<'a> {
         numbers.put_numbers(behind);
     }
 
-    // What stands behind the unit in an output that begins with it.
-    fn behind_unit<'b>(&self, output: &'b [u8]) -> Option<&'b [u8]> {
+    // The unit's byte at an index; 0 behind the bytes that are stored.
+    fn unit_byte(&self, i: usize) -> u8 {
         let again = self.byte_again;
-        let (before, behind) = self.unit.split_at_checked(again.index)?;
-        let (same, output) = output.strip_prefix(before)?.split_at_checked(again.more)?;
-        if same.iter().any(|byte| Some(byte) != behind.first()) {
-            return None;
-        }
-        output.strip_prefix(behind)
+        let stored = i.min(again.index).max(i.saturating_sub(again.more));
+        self.unit.get(stored).copied().unwrap_or(0)
     }
 
     // Whether an output begins with the unit, or with nothing where the record is refused, and is as before behind it.
     fn is_output_same(&self, output: &[u8]) -> bool {
-        match self.answer {
-            Ok(length) => self
-                .behind_unit(output)
-                .is_some_and(|behind| is_untouched(behind, length)),
-            Err(_) => is_untouched(output, 0),
-        }
+        let length = self.answer.unwrap_or(0);
+        let Some((unit, behind)) = output.split_at_checked(length) else {
+            return false;
+        };
+        unit.iter().zip(0..).all(|(byte, i)| *byte == self.unit_byte(i))
+            && behind.iter().zip(length..).all(|(byte, i)| *byte == pattern(i))
     }
 
     // Whether the writer's answer and the output are as recorded.
@@ -94,11 +90,6 @@ impl<'a> Case<'a> {
         fill_pattern(output);
         write_vps_nal(record, output) == self.answer && self.is_output_same(output)
     }
-}
-
-// Whether what stands in an output from an index on is as before.
-fn is_untouched(part: &[u8], from: usize) -> bool {
-    part.iter().zip(from..).all(|(byte, i)| *byte == pattern(i))
 }
 
 // Replays a case on the beginnings of two buffers, of just the lengths recorded.

@@ -69,12 +69,16 @@ impl Counts {
     }
 }
 
+// Whether the answers to a case are those recorded, asked with its tag and its content; any case may be asked.
+#[derive(Clone, Copy)]
+pub struct Replays {
+    pub is_same: fn(u8, &[u8]) -> bool,
+    ghost callable: { IsAlwaysCallable is_same },
+}
+
 // Replays the list on standard input, each record by way of a lent slice; prints how many cases each kind has, and how many
-// differ. Whether the answers to a case are those recorded is asked with its tag and its content. A record that is cut off or
-// too long counts as a case that differs.
-pub fn replay<F: Fn(u8, &[u8]) -> bool>(content: &mut [u8], is_same: F)
-    requires { F.IsAlwaysCallable is_same }
-{
+// differ. A record that is cut off or too long counts as a case that differs.
+pub fn replay(content: &mut [u8], replays: Replays) {
     let mut counts = Counts::default();
     for _ in 0..MOST_RECORDS {
         match read_record(content) {
@@ -86,7 +90,7 @@ pub fn replay<F: Fn(u8, &[u8]) -> bool>(content: &mut [u8], is_same: F)
                 print_count(name, counts.cases);
                 counts.cases = 0;
             }
-            Ok(Some(Record::Case(tag, content))) => counts.add(is_same(tag, content)),
+            Ok(Some(Record::Case(tag, content))) => counts.add((replays.is_same)(tag, content)),
             Err(Broken) => counts.add(false),
         }
     }

@@ -43,8 +43,23 @@ fn are_parts(mut content: Content, count: u32, record: &[u32]) -> bool {
     (0..count).all(|_| Found::from(&mut content).is_in(record)) && content.rest.is_empty()
 }
 
+// Whether the last of a content's numbers is whole: how many bytes of a number are still to come is counted over all bytes.
+fn is_whole(content: &[u8]) -> bool {
+    let missing = content
+        .iter()
+        .fold(0, |missing, byte| match (missing, *byte) {
+            (0, 255) => 4,
+            (0, _) => 0,
+            (_, _) => missing - 1,
+        });
+    missing == 0
+}
+
 // Replays a case on a record of just the length recorded.
 pub fn is_same(content: &[u8]) -> bool {
+    if !is_whole(content) {
+        return false;
+    }
     let mut content = Content { rest: content };
     let length = content.number() as usize;
     let count = content.number();

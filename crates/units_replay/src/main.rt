@@ -3,7 +3,10 @@
 
 mod unit;
 
+use replay_list::Replays;
+
 fn main() {
     let mut content = [0u8; 16384];
-    replay_list::replay(&mut content, |_tag, content: &[u8]| unit::is_same(content));
+    let is_same = |_tag, content: &[u8]| unit::is_same(content);
+    replay_list::replay(&mut content, Replays { is_same });
 }

@@ -21,6 +21,24 @@ fn read_answer(content: &mut Content) -> Result<Result<Parsed, NotParsed>, NoRef
     }))
 }
 
+// Bytes, and how many there are to be; the content holds fewer where it is cut off.
+#[derive(Clone, Copy)]
+struct Bytes<'a> {
+    length: u32,
+    stored: &'a [u8],
+}
+
+// With the length in two bytes before them.
+impl<'a> From<&mut Content<'a>> for Bytes<'a> {
+    fn from(content: &mut Content<'a>) -> Bytes<'a> {
+        let length = content.two_bytes();
+        Bytes {
+            length,
+            stored: content.bytes(length as usize),
+        }
+    }
+}
+
 // A case, as it is recorded.
 #[derive(Clone, Copy)]
 struct Case<'a> {
@@ -30,8 +48,8 @@ struct Case<'a> {
     record: usize,
     // how often the last byte of the unit and of the RBSP is there again
     again: u32,
-    unit: &'a [u8],
-    rbsp: &'a [u8],
+    unit: Bytes<'a>,
+    rbsp: Bytes<'a>,
     numbers: Content<'a>,
 }
 
@@ -42,8 +60,8 @@ impl<'a> Case<'a> {
         let work = content.four_bytes() as usize;
         let record = content.four_bytes() as usize;
         let again = content.four_bytes();
-        let unit = read_bytes(&mut content);
-        let rbsp = read_bytes(&mut content);
+        let unit = Bytes::from(&mut content);
+        let rbsp = Bytes::from(&mut content);
         Ok(Case {
             answer,
             work,
@@ -57,17 +75,17 @@ impl<'a> Case<'a> {
 
     // The length of what is stored of the RBSP: nothing where none is recorded.
     fn rbsp_length(&self) -> usize {
-        if self.rbsp.is_empty() {
+        if self.rbsp.length == 0 {
             0
         } else {
-            self.rbsp.len() + self.again as usize
+            self.rbsp.length as usize + self.again as usize
         }
     }
 
     // Whether the work buffer begins with the RBSP and is as before behind it.
     fn is_work_same(&self, work: &[u8]) -> bool {
         is_begun(work, self.rbsp_length(), &mut [0; MOST_BYTES], |start| {
-            put_repeated(self.rbsp, start)
+            put_repeated(self.rbsp.stored, start)
         })
     }
 
@@ -82,7 +100,7 @@ impl<'a> Case<'a> {
 
     // Whether the reader's answer and both buffers are as recorded.
     fn is_call_same(&self, unit: &mut [u8], work: &mut [u8], record: &mut [u32]) -> bool {
-        put_repeated(self.unit, unit);
+        put_repeated(self.unit.stored, unit);
         fill_pattern(work);
         fill_pattern(record);
         let answer = parse_vps(unit, work, record);
@@ -94,7 +112,7 @@ impl<'a> Case<'a> {
         let mut unit = [0; MOST_BYTES];
         let mut work = [0; MOST_BYTES];
         let mut record = [0; MOST_NUMBERS];
-        let unit_length = self.unit.len() + self.again as usize;
+        let unit_length = self.unit.length as usize + self.again as usize;
         match (
             unit.get_mut(..unit_length),
             work.get_mut(..self.work),
@@ -104,12 +122,6 @@ impl<'a> Case<'a> {
             _ => false,
         }
     }
-}
-
-// Bytes, with how many there are in two bytes before them.
-fn read_bytes<'a>(content: &mut Content<'a>) -> &'a [u8] {
-    let length = content.two_bytes() as usize;
-    content.bytes(length)
 }
 
 // Whether a buffer begins with what is put into so many of its numbers, and is as before behind them.
