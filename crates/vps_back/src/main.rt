@@ -5,7 +5,6 @@ ghost use Rattle.std.specs.Prelude.{◌≡◌};
 ghost use Rattle.vps_definition.specs.Writing.{write_record};
 ghost use Rattle.vps_back.specs.Back.{said, written_back, back};
 
-use printing::print_count;
 use refusals::Refusal;
 use vps_reader::{NotParsed, parse_vps};
 use vps_writer::write_vps_nal;
@@ -85,17 +84,24 @@ fn way_back(unit: &[u8]) -> Result<Back, NotBack>
     written_back(unit, parsed.record_in(&record))
 }
 
-// Prints a word, and a refusal's number behind it.
-fn print_refusal(word: &[u8], refusal: Refusal) {
-    print_count(word, u64::from(refusal.number()));
+// Prints words that end in a blank, and a number, on a line: each in a write of its own.
+fn print_number(words: &[u8], number: u64) {
+    io::write_all(STDOUT_FILENO, words);
+    io::print_decimal(STDOUT_FILENO, number);
+    io::write_all(STDOUT_FILENO, b"\n");
+}
+
+// Prints words, and a refusal's number behind them.
+fn print_refusal(words: &[u8], refusal: Refusal) {
+    print_number(words, u64::from(refusal.number()));
 }
 
 fn print_back(answer: Result<Back, NotBack>) {
     match answer {
-        Err(NotBack::NotRead(not_parsed)) => print_refusal(b"refused", not_parsed.refusal()),
-        Err(NotBack::NotWritten(refusal)) => print_refusal(b"not written", refusal),
+        Err(NotBack::NotRead(not_parsed)) => print_refusal(b"refused ", not_parsed.refusal()),
+        Err(NotBack::NotWritten(refusal)) => print_refusal(b"not written ", refusal),
         Ok(back) => {
-            print_count(b"written", back.count as u64);
+            print_number(b"written ", back.count as u64);
             if back.same {
                 io::write_all(STDOUT_FILENO, b"same\n");
             } else {
