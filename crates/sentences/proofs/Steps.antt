@@ -1,11 +1,13 @@
 -- The code's rows, a sentence in room for every one, and a number found by its sentence.
-use Rattle.std.specs.Prelude.{ℕ, suc, ◌-◌, ◌≤◌, ◌<◌, ◌≡◌, List, [], ◌∷◌, ◌++◌, map, length, get_or, take, drop}
+use Rattle.std.specs.Prelude.{ℕ, suc, ◌-◌, ◌≤◌, ◌<◌, ◌≡◌, List, [], ◌∷◌, map, length, get_or, take}
 use Rattle.std.proofs.Common.{refl, sym, ap, ◌∙◌, Bor, arith, le-leb}
 use Rattle.std.proofs.lemmas.Bool.{lt-leb}
 use Rattle.std.proofs.Math.ListN.{get_or-map}
 use Rattle.refusals.specs.Answer.Answer.{success, refusal}
 use Rattle.refusals.specs.Number.{output_too_short}
 use Rattle.refusals.specs.Lent.{lent, output_after}
+use Rattle.lists.specs.Stored.{overlaid}
+use Rattle.texts.specs.Text.{Puts, puts_whole}
 use Rattle.texts.specs.Adds.{Adds, adds_whole}
 use Rattle.texts.specs.declared.Text.{Text}
 use Rattle.sentences.specs.Sentences.{table, words_of_row, words_of, word_of, sentence_of}
@@ -34,8 +36,8 @@ module _ (said s out : List ℕ) (e : said ≡ s) where
   unfolding lent output_after
   too_short h = let l : length out < length s = omega (arith, h, ap length e) in rw (lt-leb (length s) (length out) l) (refl, refl)
 
-  pub has_room : {copied : List ℕ} → length said ≤ length out → copied ≡ said → (success (length said) ≡ lent s out) × (copied ++ drop (length said) out ≡ output_after s out)
+  pub has_room : {next : ℕ} {out' : List ℕ} → length said ≤ length out → Puts said 0 next out out' → (success (length said) ≡ lent s out) × (out' ≡ output_after s out)
   unfolding lent output_after
-  has_room h f =
+  has_room h p =
       let l : length s ≤ length out = omega (arith, h, ap length e) in
-      rw (le-leb (length s) (length out) l) (ap success (ap length e), λ i. (f ∙ e) i ++ drop (length (e i)) out)
+      rw (le-leb (length s) (length out) l) (ap success (ap length e), (puts_whole p h).1 ∙ λ i. overlaid (e i) out)

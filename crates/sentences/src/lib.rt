@@ -115,7 +115,7 @@ pub fn sentence(number: u32, output: &mut [u8]) -> Result<usize, Refusal>
     if output.len() < said.len() {
         return Err(Refusal::OutputTooShort);
     }
-    output[..said.len()].copy_from_slice(said);
+    Text::at(output, 0).put(said);
     Ok(said.len())
 }
 

@@ -1,9 +1,7 @@
 -- Text that is put into a lent slice from a place on, as much of it as there is room for.
-use Rattle.std.specs.Prelude.{ℕ, suc, ◌+◌, ◌-◌, ◌≤◌, ◌<◌, min, ◌≡◌, refl, List, [], ◌∷◌, ◌++◌, Bool, true, false, leb, length, take, drop}
-use Rattle.std.proofs.Common.{append_assoc, sym, ap, ◌∙◌, subst, arith, leb-true, leb-false, length-append, length-take-le, take-append-drop}
-use borrow.Rule.Slice.PartMut.{put_mid}
-use Rattle.std.proofs.lemmas.List.{take_all, drop-drop}
-use Rattle.std.proofs.lemmas.List.Edits.{sets, sets-eq}
+use Rattle.std.specs.Prelude.{ℕ, suc, ◌+◌, ◌-◌, ◌≤◌, ◌<◌, min, ◌≡◌, refl, List, [], ◌∷◌, ◌++◌, Bool, true, false, leb, length, set}
+use Rattle.std.proofs.Common.{sym, ap, ◌∙◌, subst, arith, leb-true, leb-false, length-append}
+use Rattle.std.proofs.lemmas.List.Edits.{sets}
 use Rattle.std.proofs.Math.Seq.{length-sets, set_out}
 use Rattle.lists.specs.Stored.{sets_append, overlaid, stored_whole}
 
@@ -50,31 +48,11 @@ puts_then {x} {y} {at} {next} {next'} {text} {text₁} {text₂} p q =
         let h : length text < at + length x = leb-false (at + length x) (length text) e in
         sets_past y text₁ next (omega (arith, h, same, p.place)) ∙ p.stored ∙ sym (sets_past y (sets text at x) (at + length x) (omega (arith, h, length-sets text at x)))
 
--- ── As much as there is room for ──────────────────────────────────────
--- the first n of x stand for all of x where they are all, or end with the text
-sets_room : (text x : List ℕ) (at n : ℕ) → n ≡ min (length x) (length text - at) → at + n ≤ length text → sets text at x ≡ sets text at (take n x)
-sets_room text x at n e h = go (leb (length x) n) refl where
-  go : (b : Bool) → leb (length x) n ≡ b → sets text at x ≡ sets text at (take n x)
-  go true q = ap (sets text at) (sym (take_all n x (leb-true (length x) n q)))
-  go false q =
-      let l : length (take n x) ≡ n = length-take-le n x (omega (arith, leb-false (length x) n q)) in
-      ap (sets text at) (sym (take-append-drop n x)) ∙ sets_append text at (take n x) (drop n x)
-      ∙ sets_past (drop n x) (sets text at (take n x)) (at + length (take n x)) (omega (arith, leb-false (length x) n q, e, l, length-sets text at (take n x)))
+-- ── Byte by byte ──────────────────────────────────────────────────────
+-- a byte is stored where there is room for one
+pub puts_byte : (b at : ℕ) (text : List ℕ) → at < length text → Puts (b ∷ []) at (at + 1) text (set text at b)
+puts_byte b at text h = record { stored = refl; place = omega arith }
 
--- they are stored where there is room for some
-pub puts_room : (x : List ℕ) {at n k room : ℕ} {text y : List ℕ} → room ≡ length text - at → n ≡ min (length x) room → 0 < n → k ≡ n → y ≡ take n x → Puts x at (at + n) text (put_mid at k text y)
-puts_room x {at} {n} {k} {room} {text} {y} er en some ek ey =
-    let h : at + n ≤ length text = omega arith in
-    let e : n ≡ min (length x) (length text - at) = en ∙ ap (min (length x)) er in
-    let l : length (take n x) ≡ n = length-take-le n x (omega (arith, en)) in
-    let d : drop k (drop at text) ≡ drop (at + length (take n x)) text = drop-drop k at text ∙ ap (λ (i : ℕ). drop (at + i) text) (ek ∙ sym l) in
-    record {
-      stored = ap (λ (z : List ℕ). put_mid at k text z) ey ∙ ap (λ (z : List ℕ). take at text ++ (take n x ++ z)) d
-          ∙ sym (append_assoc (take at text) (take n x) (drop (at + length (take n x)) text)) ∙ sym (sets-eq (take n x) text at (omega (arith, l, h))) ∙ sym (sets_room text x at n e h);
-      place = ap (λ (i : ℕ). at + i) e;
-    }
-
--- and nothing where there is room for none
-pub puts_no_room : (x : List ℕ) {at n room : ℕ} {text : List ℕ} → room ≡ length text - at → n ≡ min (length x) room → n ≤ 0 → Puts x at at text text
-puts_no_room [] er en none = record { stored = refl; place = omega arith }
-puts_no_room (b ∷ x) {at} {n} {room} {text} er en none = record { stored = sym (sets_past (b ∷ x) text at (omega arith)); place = omega arith }
+-- and nothing where there is none
+pub puts_no_room : (x : List ℕ) (at : ℕ) (text : List ℕ) → length text ≤ at → Puts x at at text text
+puts_no_room x at text h = record { stored = sym (sets_past x text at h); place = omega arith }

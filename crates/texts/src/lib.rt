@@ -1,7 +1,7 @@
 // Text put into a lent slice from a place on: as much as there is room for, and the place behind it.
 #![tactic(auto)]
 
-ghost use Rattle.std.specs.Prelude.{◌≡◌, take};
+ghost use Rattle.std.specs.Prelude.{◌≡◌, [], ◌∷◌, take};
 ghost use Rattle.texts.specs.Adds.{Adds};
 
 use lists::front;
@@ -31,16 +31,25 @@ impl<'a> Text<'a> {
         front(self.bytes, self.place)
     }
 
+    // A byte behind what stands there, where there is room for one.
+    fn put_byte(&mut self, byte: u8)
+        ensures { Adds (byte ∷ []) self.old self.new }
+    {
+        let room = self.bytes.len().saturating_sub(self.place);
+        if room > 0 {
+            self.bytes[self.place] = byte;
+            self.place += 1;
+        }
+    }
+
     // Bytes behind what stands there, as many as there is room for.
     // As it is (4): `fmt::Write` promises what was written where it answers `Ok` alone; what is put here is cut where there is no room, and never refused.
+    // As it is (4): `copy_from_slice` asks the C library for `memmove`, since the compiler does not see that the slices lie apart.
     pub fn put(&mut self, bytes: &[u8])
         ensures { Adds bytes.now self.old self.new }
     {
-        let room = self.bytes.len().saturating_sub(self.place);
-        let count = bytes.len().min(room);
-        if count > 0 {
-            self.bytes[self.place..self.place + count].copy_from_slice(&bytes[..count]);
-            self.place += count;
+        for byte in bytes {
+            self.put_byte(*byte);
         }
     }
 }

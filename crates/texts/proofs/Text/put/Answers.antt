@@ -1,10 +1,15 @@
--- `put` meets its contract: the first bytes stand there, as many as there is room for, and storing the others too changes nothing.
-use Rattle.std.proofs.Common.{refl, arith}
-use Rattle.texts.specs.Text.{puts_room, puts_no_room}
+-- `put` meets its contract: behind each turn there is a byte more.
+use Rattle.std.proofs.Common.{ℕ, sym, ◌∙◌, ap, take, arith, add-one, take-suc, take_all}
+use Rattle.texts.specs.Adds.{adds_same, adds_none, adds_then}
 use Rattle.texts.proofs.Text.put.Goals as goal
 
-pub returns-then-count-gt0 : goal.returns-then-count-gt0
-returns-then-count-gt0 c = record { same_reference = refl; puts = puts_room c.args.bytes.now c.saturating_sub-room.ensures c.min-count.ensures c.if-count-gt0.true (omega arith) c.copy_from_slice.ensures.after }
+pub loop-byte-init : goal.loop-byte-init
+loop-byte-init c = adds_none _
 
-pub returns-else-count-gt0 : goal.returns-else-count-gt0
-returns-else-count-gt0 c = record { same_reference = refl; puts = puts_no_room c.args.bytes.now c.saturating_sub-room.ensures c.min-count.ensures c.if-count-gt0.false }
+pub loop-byte-preserved : goal.loop-byte-preserved
+loop-byte-preserved c =
+    let i = c.loop-byte.byte-index in
+    adds_same (sym (take-suc c.args.bytes.now i 0 c.loop-byte-test.true) ∙ ap (λ (k : ℕ). take k c.args.bytes.now) (sym (add-one i))) (adds_then c.loop-byte.invariant c.put_byte.ensures)
+
+pub returns : goal.returns
+returns c = adds_same (take_all c.loop-byte.byte-index c.args.bytes.now (omega (arith, c.loop-byte-test.false))) c.loop-byte.invariant
