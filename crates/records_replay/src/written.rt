@@ -80,8 +80,13 @@ impl<'a> Case<'a> {
         let Some((unit, behind)) = output.split_at_checked(length) else {
             return false;
         };
-        unit.iter().zip(0..).all(|(byte, i)| *byte == self.unit_byte(i))
-            && behind.iter().zip(length..).all(|(byte, i)| *byte == pattern(i))
+        unit.iter()
+            .zip(0..)
+            .all(|(byte, i)| *byte == self.unit_byte(i))
+            && behind
+                .iter()
+                .zip(length..)
+                .all(|(byte, i)| *byte == pattern(i))
     }
 
     // Whether the writer's answer and the output are as recorded.
