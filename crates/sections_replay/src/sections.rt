@@ -47,10 +47,10 @@ fn are_parts(mut content: Content, count: u32, record: &[u32]) -> bool {
 fn is_whole(content: &[u8]) -> bool {
     let missing = content
         .iter()
-        .fold(0, |missing, byte| match (missing, *byte) {
+        .fold(0u8, |missing, byte| match (missing, *byte) {
             (0, 255) => 4,
             (0, _) => 0,
-            (_, _) => missing - 1,
+            (_, _) => missing.saturating_sub(1),
         });
     missing == 0
 }
