@@ -53,6 +53,11 @@ puts_then {x} {y} {at} {next} {next'} {text} {text₁} {text₂} p q =
 pub puts_byte : (b at : ℕ) (text : List ℕ) → at < length text → Puts (b ∷ []) at (at + 1) text (set text at b)
 puts_byte b at text h = record { stored = refl; place = omega arith }
 
--- and nothing where there is none
-pub puts_no_room : (x : List ℕ) (at : ℕ) (text : List ℕ) → length text ≤ at → Puts x at at text text
-puts_no_room x at text h = record { stored = sym (sets_past x text at h); place = omega arith }
+-- and nothing at the slice's end or past it
+pub puts_past : (x : List ℕ) (at : ℕ) (text : List ℕ) → length text ≤ at → Puts x at at text text
+puts_past x at text h = record { stored = sym (sets_past x text at h); place = omega arith }
+
+-- and nothing where there is room for none of the bytes, or where there are none
+pub puts_no_room : (x : List ℕ) {at n room : ℕ} {text : List ℕ} → room ≡ length text - at → n ≡ min (length x) room → n ≤ 0 → Puts x at at text text
+puts_no_room [] er en none = record { stored = refl; place = omega arith }
+puts_no_room (b ∷ x) {at} {n} {room} {text} er en none = record { stored = sym (sets_past (b ∷ x) text at (omega arith)); place = omega arith }
